@@ -4,3 +4,4 @@ pub mod Acceptance
 pub mod Asked
 pub mod Layers
 pub mod Totals
+pub mod Worked

@@ -4,3 +4,4 @@ pub mod channel;
 pub mod description;
 pub mod layer;
 mod window;
+pub mod worked;

@@ -50,12 +50,23 @@ one-fits m ok i l e =
     let b = ok .fits in
     omega arith
 
-pub so-far-fits : (m : Meaning) → Lawful m → (i : ℕ) → sumBy (blocks-in (block-size m)) (take i (m .levels)) < 2 ^ 64
-so-far-fits m ok i =
-    let a : sumBy (blocks-in (block-size m)) (take i (m .levels)) ≤ sumBy (blocks-in (block-size m)) (m .levels) = sumBy-take-le (blocks-in (block-size m)) (m .levels) i in
-    let b : sumBy (blocks-in (block-size m)) (m .levels) ≤ sumBy area (m .levels) = sumBy-mono (blocks-in (block-size m)) area (chunks-le (block-size m) (ok .block-wide .0) (ok .block-high .0)) (m .levels) in
-    let d = ok .fits in
+pub so-far-fits : (m : Meaning) → Lawful m → (b : Vec2 ℕ) → 0 < b .0 → 0 < b .1 → (i : ℕ) → sumBy (blocks-in b) (take i (m .levels)) < 2 ^ 64
+so-far-fits m ok b w h i =
+    let front : sumBy (blocks-in b) (take i (m .levels)) ≤ sumBy (blocks-in b) (m .levels) = sumBy-take-le (blocks-in b) (m .levels) i in
+    let whole : sumBy (blocks-in b) (m .levels) ≤ sumBy area (m .levels) = sumBy-mono (blocks-in b) area (chunks-le b w h) (m .levels) in
+    let fits = ok .fits in
     omega arith
+
+-- blocks of one by one are pixels
+ceiling-one : (n : ℕ) → ceiling n 1 ≡ n
+ceiling-one n = omega arith
+
+pub pixels : (ls : List Level) → sumBy (blocks-in (record { 0 = 1; 1 = 1 })) ls ≡ sumBy area ls
+pixels [] = refl
+pixels (l ∷ ls) =
+    let block : Vec2 ℕ = record { 0 = 1; 1 = 1 } in
+    let here : blocks-in block l ≡ area l = ap (λ n. n * ceiling (l .height) 1) (ceiling-one (l .width)) ∙ ap (λ n. l .width * n) (ceiling-one (l .height)) in
+    sumBy-cons (blocks-in block) l ls ∙ ap (λ n. n + sumBy (blocks-in block) ls) here ∙ ap (λ n. area l + n) (pixels ls) ∙ sym (sumBy-cons area l ls)
 
 pub nth-at : {X : Type 0} (xs : List X) (i : ℕ) (x : X) → i < length xs → x ≡ getD xs i x → Some x ≡ nth xs i
 nth-at [] i x h e = let none : ⊥ = omega arith in elim none [ ]

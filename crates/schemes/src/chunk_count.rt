@@ -3,6 +3,7 @@ ghost use mathlib.Core.Path.{_≡_};
 ghost use Prim.Native.Nat.{_<_, _^_};
 ghost use Rattle.schemes.specs.Blocks.{blocks-in, chunk-count};
 ghost use Rattle.schemes.specs.Meanings.{area};
+ghost use Rattle.std.specs.shelf.Lists.{sumBy};
 use crate::axis::blocks_along;
 use crate::level::Level;
 use crate::scheme::Scheme;
@@ -18,10 +19,12 @@ fn level_block_count(level: Level, block: Vec2<usize>) -> usize
     blocks_along(level.width, block.0) * blocks_along(level.height, block.1)
 }
 
-pub fn compute_chunk_count<S: Scheme>(scheme: &S) -> usize
-    ensures { λ r. ⌜ r ≡ chunk-count (S·Scheme .meaning (now (scheme .entry))) ⌝ }
+// The blocks of this size that cut all levels of a scheme.
+pub(crate) fn count_blocks<S: Scheme>(scheme: &S, block: Vec2<usize>) -> usize
+    requires across { ⌜ 0 < block .0 ⌝ }
+    requires down { ⌜ 0 < block .1 ⌝ }
+    ensures { λ r. ⌜ r ≡ sumBy (blocks-in block) (S·Scheme .meaning (now (scheme .entry)) .levels) ⌝ }
 {
-    let block = scheme.block_size();
     let mut total = 0;
     for position in 0..scheme.level_count() {
         if let Some(level) = scheme.level(position) {
@@ -29,4 +32,10 @@ pub fn compute_chunk_count<S: Scheme>(scheme: &S) -> usize
         }
     }
     total
+}
+
+pub fn compute_chunk_count<S: Scheme>(scheme: &S) -> usize
+    ensures { λ r. ⌜ r ≡ chunk-count (S·Scheme .meaning (now (scheme .entry))) ⌝ }
+{
+    count_blocks(scheme, scheme.block_size())
 }

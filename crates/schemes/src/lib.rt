@@ -13,3 +13,4 @@ pub mod shrinking;
 pub mod side;
 pub mod sides;
 pub mod single;
+mod sole;

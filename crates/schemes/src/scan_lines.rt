@@ -4,6 +4,8 @@ use crate::level::Level;
 use crate::level::Naming;
 use crate::scheme::Scheme;
 use crate::side::Side;
+use crate::sole::sole_level;
+use crate::sole::sole_position;
 use numbers::vec2::Vec2;
 use numbers::vec2::Vec2Clone;
 
@@ -29,22 +31,10 @@ pub impl Scheme for ScanLines as ScanLinesScheme {
     }
 
     fn level(&self, position: usize) -> Option<Level> {
-        if position == 0 {
-            Some(Level {
-                pair: Vec2(0, 0),
-                width: self.size.0.pixels,
-                height: self.size.1.pixels,
-            })
-        } else {
-            None
-        }
+        sole_level(self.size, position)
     }
 
     fn position(&self, pair: Vec2<usize>) -> Option<usize> {
-        if pair.0 == 0 && pair.1 == 0 {
-            Some(0)
-        } else {
-            None
-        }
+        sole_position(self.size, pair)
     }
 }
