@@ -52,7 +52,7 @@ impl LayerDescription {
     }
 
     // The first rule that a channel of the layer breaks.
-    pub fn broken_channel_rule(&self, channel: &ChannelDescription) -> Option<Reason>
+    pub(crate) fn broken_channel_rule(&self, channel: &ChannelDescription) -> Option<Reason>
         ensures { λ r. ⌜ optional number-of r ≡ broken-channel-rule (now (self .entry)) (now (channel .entry)) ⌝ }
     {
         if !channel.has_good_sampling() {
@@ -69,7 +69,7 @@ impl LayerDescription {
     }
 
     // The refusal of the first channel that breaks a rule.
-    pub fn broken_channel(&self, channels: &[ChannelDescription]) -> Option<Refusal>
+    pub(crate) fn broken_channel(&self, channels: &[ChannelDescription]) -> Option<Refusal>
         ensures { λ r. ⌜ optional told r ≡ broken-channel (now (self .entry)) 0 (now (channels .entry)) ⌝ }
     {
         for (place, channel) in channels.iter().enumerate() {

@@ -95,7 +95,7 @@ fn tile_scheme(size: Vec2<Side>, tiles: TileDescription) -> Option<AnyScheme>
 
 impl LayerDescription {
     // The first rule on the window, the blocks and the number of channels that the description breaks.
-    pub fn broken_rule(&self, channels: usize) -> Option<Reason>
+    pub(crate) fn broken_rule(&self, channels: usize) -> Option<Reason>
         ensures { λ r. ⌜ optional number-of r ≡ broken-rule (now (self .entry)) channels ⌝ }
     {
         if self.deep {
@@ -126,7 +126,7 @@ impl LayerDescription {
     }
 
     // The scheme that the description asks for, where all its sides are sides.
-    pub fn scheme(&self) -> Option<AnyScheme>
+    pub(crate) fn scheme(&self) -> Option<AnyScheme>
         ensures { λ r. ⌜ optional any-meaning r ≡ scheme-of (now (self .entry)) ⌝ }
     {
         let Some(size) = sides(self.layer_size) else {

@@ -37,5 +37,6 @@ pub(crate) fn count_blocks<S: Scheme>(scheme: &S, block: Vec2<usize>) -> usize
 pub fn compute_chunk_count<S: Scheme>(scheme: &S) -> usize
     ensures { λ r. ⌜ r ≡ chunk-count (S·Scheme .meaning (now (scheme .entry))) ⌝ }
 {
-    count_blocks(scheme, scheme.block_size())
+    let block = scheme.block_size();
+    count_blocks(scheme, block)
 }
