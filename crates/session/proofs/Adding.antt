@@ -10,13 +10,13 @@ use lib.ListN.{length}
 use Rattle.std.proofs.shelf.Tests.{cases-bool, cond-true, cond-false}
 use Rattle.std.specs.declared.result.Result.{Result}
 use Rattle.std.specs.declared.result.Result.the-variants.{Ok, Err}
-use Rattle.numbers.specs.Refusals.{Told, number-of, refused, told}
+use Rattle.numbers.specs.Refusals.{Told, refused, told}
 use Rattle.numbers.specs.declared.refusal.Refusal.{Refusal}
 use Rattle.layout.specs.declared.attribute.ChannelDescription.{ChannelDescription}
 use Rattle.layout.specs.declared.attribute.SampleType.{SampleType}
 use Rattle.session.specs.Sessions.{Held, Said, added, added-to, adding, channels}
 
-pub not-added : (cs xs : List ChannelDescription) (t : SampleType) (r : Refusal) → Err (told r) ≡ adding cs → xs ≡ added cs t → _≡_ {A = Held × Said} (channels xs, Err (number-of (r .reason))) (added-to cs t)
+pub not-added : (cs xs : List ChannelDescription) (t : SampleType) (r : Refusal) → Err (told r) ≡ adding cs → xs ≡ added cs t → _≡_ {A = Held × Said} (channels xs, Err (told r)) (added-to cs t)
 not-added cs xs t r e x = elim (cases-bool (ltb (length cs) 1024)) [
   | inl room ↦
       let f : Err (told r) ≡ Ok (length cs + 1) = e ∙ cond-true _ _ _ room in
@@ -26,8 +26,7 @@ not-added cs xs t r e x = elim (cases-bool (ltb (length cs) 1024)) [
   | inr full ↦
       let f : _≡_ {A = Result ℕ Told} (Err (told r)) (Err (refused 9 8 0)) = e ∙ cond-false _ _ _ full in
       let same : told r ≡ refused 9 8 0 = cc in
-      let n : number-of (r .reason) ≡ 9 = ap (λ (v : Told). v .number) same in
-      ap (λ ys. (channels ys, Err (number-of (r .reason)))) (x ∙ cond-false _ _ _ full)
-      ∙ ap (λ k. (channels cs, Err k)) n
+      ap (λ ys. (channels ys, Err (told r))) (x ∙ cond-false _ _ _ full)
+      ∙ ap (λ why. (channels cs, Err why)) same
       ∙ sym (cond-false _ _ _ full)
 ]

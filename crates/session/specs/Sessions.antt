@@ -7,7 +7,7 @@ use lib.ListN.{length}
 use Rattle.std.specs.Of.Vec.{vec-items}
 use Rattle.std.specs.declared.result.Result.{Result}
 use Rattle.std.specs.declared.result.Result.the-variants.{Ok, Err}
-use Rattle.numbers.specs.Refusals.{Told, number-of, refused}
+use Rattle.numbers.specs.Refusals.{Told, refused, told}
 use Rattle.schemes.specs.Blocks.{chunk-count}
 use Rattle.layout.specs.Acceptance.{Laid, accepted}
 use Rattle.layout.specs.Layers.{laid}
@@ -47,34 +47,38 @@ abbrev pub held : Session → Held
 held (Nothing c) = channels (channels-of c)
 held (Holds l) = layer (laid l)
 
--- an answer: the fields that follow `ok`, or the number that follows `no`
+-- an answer: the fields that follow `ok`, or a refusal, whose number follows `no`
 abbrev pub Said : Type 0
-Said = Result (List ℕ) ℕ
+Said = Result (List ℕ) Told
 
 abbrev pub said : Answer → Said
 said (Counted n) = Ok (n ∷ [])
 said (Measured chunks bytes) = Ok (chunks ∷ (bytes ∷ []))
-said (Refused r) = Err (number-of (r .reason))
+said (Refused r) = Err (told r)
 
 -- what a command left of a session, with its answer
 abbrev pub shown : Session × Answer → Held × Said
 shown r = (held (r .0), said (r .1))
 
--- a refusal by this number leaves what was held
-abbrev pub stays : Held → ℕ → Held × Said
-stays h number = (h, Err number)
+-- a refusal leaves what was held
+abbrev pub stays : Held → Told → Held × Said
+stays h why = (h, Err why)
+
+-- a command that is not allowed now
+abbrev pub not-now : Told
+not-now = refused 30 8 0
 
 -- `C`
 abbrev pub added-to : List ChannelDescription → SampleType → Held × Said
-added-to cs t = cond (ltb (length cs) 1024) (channels (cs ++ (channel t ∷ [])), Ok ((length cs + 1) ∷ [])) (stays (channels cs) 9)
+added-to cs t = cond (ltb (length cs) 1024) (channels (cs ++ (channel t ∷ [])), Ok ((length cs + 1) ∷ [])) (stays (channels cs) (refused 9 8 0))
 
 -- `S` and `T`: the layer, with its chunk count and its bytes
 abbrev pub laid-out-in : List ChannelDescription → LayerDescription → Held × Said
 laid-out-in cs d =
     elim (accepted d cs) [
-      | Err told ↦ stays (channels cs) (told .number)
+      | Err why ↦ stays (channels cs) why
       | Ok l ↦ elim (fitting (total-bytes l)) [
-        | Err told ↦ stays (channels cs) (told .number)
+        | Err why ↦ stays (channels cs) why
         | Ok bytes ↦ (layer l, Ok (chunk-count (l .scheme) ∷ (bytes ∷ [])))
       ]
     ]
@@ -84,15 +88,15 @@ abbrev pub on-channels : List ChannelDescription → Command → Held × Said
 on-channels cs (C t) = added-to cs t
 on-channels cs (S d) = laid-out-in cs d
 on-channels cs (T d) = laid-out-in cs d
-on-channels cs (O first) = stays (channels cs) 30
-on-channels cs F = stays (channels cs) 30
-on-channels cs B = stays (channels cs) 30
-on-channels cs (P number length) = stays (channels cs) 30
-on-channels cs N = stays (channels cs) 30
-on-channels cs (Q number) = stays (channels cs) 30
-on-channels cs (Y y) = stays (channels cs) 30
-on-channels cs (X tile level) = stays (channels cs) 30
+on-channels cs (O first) = stays (channels cs) not-now
+on-channels cs F = stays (channels cs) not-now
+on-channels cs B = stays (channels cs) not-now
+on-channels cs (P number length) = stays (channels cs) not-now
+on-channels cs N = stays (channels cs) not-now
+on-channels cs (Q number) = stays (channels cs) not-now
+on-channels cs (Y y) = stays (channels cs) not-now
+on-channels cs (X tile level) = stays (channels cs) not-now
 
 abbrev pub stepped : Held → Command → Held × Said
 stepped (channels cs) command = on-channels cs command
-stepped (layer l) command = stays (layer l) 30
+stepped (layer l) command = stays (layer l) not-now
