@@ -8,8 +8,6 @@ ORACLE is a program over the Rust crate exr 1.74.2 that answers one line for eac
 strict `Header::validate` (ok, invalid, unsupported, panic), then chunk count, total bytes, largest block and largest file.
 Where the crate accepts a layer and our rules do too, chunk count and bytes are the crate's. The number of a refusal is
 that of the rules in docs/RULES.md, and the crate has to refuse the layer too unless the difference is a named one.
-On a layer that was laid out blocks are then looked up by line and by tile; their numbers are those of the rules, which
-tools/block_table.py holds to the crate's enumeration.
 The file is made by hand and committed: the gate needs neither this script nor the crate.
 """
 import random
@@ -17,10 +15,26 @@ import struct
 import subprocess
 import sys
 
-from numbering import Blocks, levels
-
 BYTES = {0: 4, 1: 2, 2: 4}
 LIMIT = 1073741823
+
+
+def log2(up, n):
+    k = n.bit_length() - 1
+    return k + 1 if up and 1 << k != n else k
+
+
+def divide(up, a, b):
+    return -(-a // b) if up else a // b
+
+
+def levels(w, h, mode, up):
+    if mode == 0:
+        return [(w, h)]
+    side = lambda n, l: max(1, divide(up, n, 1 << l))
+    if mode == 1:
+        return [(side(w, l), side(h, l)) for l in range(log2(up, max(w, h)) + 1)]
+    return [(side(w, x), side(h, y)) for y in range(log2(up, h) + 1) for x in range(log2(up, w) + 1)]
 
 
 class Layer:
@@ -55,29 +69,11 @@ class Layer:
             return 8
         return 9 if not self.types else 0
 
-    def blocks(self):
-        bw, bh, mode, up = (self.w, self.lines, 0, 0) if self.tile is None else self.tile
-        return Blocks(self.y, levels(self.w, self.h, mode, up), bw, bh, self.lines)
-
     def count(self):
-        blocks = self.blocks()
-        return blocks.chunks, sum(w * h for _, _, w, h in blocks.levels) * sum(BYTES[t] for t in self.types)
-
-    def lookups(self, rng):
-        """lines and tiles that blocks have, some next to them, and some of the other naming"""
-        blocks = self.blocks()
-        for number in sorted({0, blocks.chunks - 1, rng.randint(0, blocks.chunks - 1)}):
-            fields = blocks.coordinates(blocks.place(number))
-            yield fields
-            yield tuple(f + rng.choice((-1, 0, 1)) for f in fields)
-        yield (self.y,)
-        yield (2147483647,) if rng.random() < 0.5 else (-2147483648,)
-        yield (0, 0, 0, 0)
-        yield tuple(rng.choice((-1, 0, 1, 31, 64, 2147483647)) for _ in range(4))
-
-
-def lookup(fields):
-    return (b'Y' if len(fields) == 1 else b'X') + struct.pack(f'<{len(fields)}i', *fields)
+        bw, bh, mode, up = (self.w, self.lines, 0, 0) if self.tile is None else self.tile
+        ls = levels(self.w, self.h, mode, up)
+        chunks = sum(divide(1, w, bw) * divide(1, h, bh) for w, h in ls)
+        return chunks, sum(w * h for w, h in ls) * sum(BYTES[t] for t in self.types)
 
 
 def named_difference(layer):
@@ -176,22 +172,12 @@ def main():
     asked = ''.join(f'layer {l.words()}\n' for l in layers)
     answers = subprocess.run([sys.argv[1]], input=asked, capture_output=True, text=True).stdout.split('\n')
     with open('crates/plan_table/stdin', 'w') as plans, open('crates/plan_table/stdout', 'w') as printed:
-        def write(layer, told, asked=()):
-            plan = layer.plan() + b''.join(map(lookup, asked))
-            plans.write(f'# {layer.words()}\n{plan.hex()}\n')
+        def write(layer, told):
+            plans.write(f'# {layer.words()}\n{layer.plan().hex()}\n')
             printed.write(f'# {layer.words()}\n' + '\n'.join(told) + '\n')
 
-        rng = random.Random(1744)
         for layer, answer in zip(layers, answers[:-1], strict=True):
-            told = expected(layer, answer)
-            if ' ok ' not in told[-1] or not layer.types:
-                write(layer, told + ['Y no 30'], [(0,)])
-                continue
-            asked = list(layer.lookups(rng))
-            for fields in asked:
-                number = layer.blocks().find(fields)
-                told.append(('Y' if len(fields) == 1 else 'X') + (' no 21' if number is None else f' ok {number}'))
-            write(layer, told, asked)
+            write(layer, expected(layer, answer))
         # 1,024 channels are kept, and the next is refused
         told = [f'C ok {i + 1}' for i in range(1024)] + ['C no 9', f'S ok 3 {15 * 2 * 1024}']
         write(Layer(0, 0, 5, 3, 0, [1] * 1025, lines=1), told)

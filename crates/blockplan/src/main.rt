@@ -1,4 +1,6 @@
 // Lays out layers: reads one-letter commands from standard input, and prints a line for each.
+#![tactic(auto)]
+
 use anyhow::anyhow;
 use session::transcript::transcript;
 use std::io::{BufWriter, Read, Write};

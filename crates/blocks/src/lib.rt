@@ -1,4 +1,6 @@
 // The blocks of a layer: their numbers, their bounds, and the order in which they stand in a file.
+#![tactic(auto)]
+
 pub mod block;
 pub mod bounds;
 mod cut;

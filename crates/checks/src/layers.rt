@@ -1,7 +1,6 @@
 // Layers that a session can't ask for: deep ones, sampled channels, stated chunk counts. And the totals.
-use blocks::line_order::LineOrder;
 use layout::attribute::{
-    BlockDescription, ChannelDescription, LevelMode, SampleType, TileDescription,
+    BlockDescription, ChannelDescription, LevelMode, LineOrder, SampleType, TileDescription,
 };
 use layout::description::LayerDescription;
 use layout::layer::Layer;

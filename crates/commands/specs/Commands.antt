@@ -1,17 +1,18 @@
 -- The commands as bytes: one letter, followed by operands of fixed widths.
-use Rattle.std.specs.Prelude.{ℕ, false, cond, List, [], ◌∷◌, length, drop, Some, None, Option, ◌==◌, nat_le}
+use Rattle.std.specs.Prelude.{ℕ, ◌+◌, false, cond, List, [], ◌∷◌, length, drop, ℤ, Some, None, Option, ◌==◌, nat_le}
 use Rattle.numbers.specs.Wholes.{optional}
 use Rattle.numbers.specs.declared.rounding.RoundingMode.{RoundingMode}
 use Rattle.numbers.specs.declared.rounding.RoundingMode.TheVariants.{Down, Up}
+use Rattle.numbers.specs.declared.vec2.Vec2.{Vec2}
 use Rattle.layout.specs.declared.attribute.BlockDescription.{BlockDescription}
 use Rattle.layout.specs.declared.attribute.BlockDescription.TheVariants.{ScanLines, Tiles}
 use Rattle.layout.specs.declared.attribute.LevelMode.{LevelMode}
 use Rattle.layout.specs.declared.attribute.LevelMode.TheVariants.{Singular, MipMap, RipMap}
-use Rattle.blocks.specs.declared.line_order.LineOrder.{LineOrder}
-use Rattle.blocks.specs.declared.line_order.LineOrder.TheVariants.{Increasing, Decreasing, Unspecified}
+use Rattle.layout.specs.declared.attribute.LineOrder.{LineOrder}
+use Rattle.layout.specs.declared.attribute.LineOrder.TheVariants.{Increasing, Decreasing, Unspecified}
 use Rattle.layout.specs.declared.attribute.SampleType.{SampleType}
 use Rattle.layout.specs.declared.attribute.SampleType.TheVariants.{U32, F16, F32}
-use Rattle.fields.specs.Bytes.{byte_at, half_at, word_at, int_at, ints_at, long_at, words_at}
+use Rattle.commands.specs.Bytes.{byte_at, half_at, word_at, int_at, long_at}
 use Rattle.commands.specs.declared.command.Command.{Command}
 use Rattle.commands.specs.declared.command.Command.TheVariants.{C, S, T, O, F, B, P, N, Q, Y, X}
 use Rattle.layout.specs.declared.description.LayerDescription.{LayerDescription}
@@ -28,6 +29,13 @@ level_mode b = cond (b == 0) (Some Singular) (cond (b == 1) (Some MipMap) (cond 
 
 abbrev pub rounding_mode : ℕ → Option RoundingMode
 rounding_mode b = cond (b == 0) (Some Down) (cond (b == 1) (Some Up) None)
+
+-- two signed numbers, and two unsigned ones, from a place on
+abbrev pub ints_at : List ℕ → ℕ → Vec2 ℤ
+ints_at ops at = record { 0 = int_at ops at; 1 = int_at ops (at + 4) }
+
+abbrev pub words_at : List ℕ → ℕ → Vec2 ℕ
+words_at ops at = record { 0 = word_at ops at; 1 = word_at ops (at + 4) }
 
 -- `S`: position, size, lines (two bytes), order; a command's layer is flat, and states no chunk count
 abbrev pub scan_lines : List ℕ → LineOrder → LayerDescription

@@ -1,11 +1,10 @@
 // Commands: one letter, followed by operands of fixed widths.
 ghost use Rattle.std.specs.Prelude.{◌≡◌, ◌∷◌};
-ghost use Rattle.fields.specs.Bytes.{ints_at, seen, taken, words_at};
-ghost use Rattle.commands.specs.Commands.{level_mode, line_order, read_command, rounding_mode, sample_type};
+ghost use Rattle.commands.specs.Bytes.{seen, taken};
+ghost use Rattle.commands.specs.Commands.{ints_at, level_mode, line_order, read_command, rounding_mode, sample_type, words_at};
 
-use blocks::line_order::LineOrder;
-use fields::read;
-use layout::attribute::{BlockDescription, LevelMode, SampleType, TileDescription};
+use crate::operand;
+use layout::attribute::{BlockDescription, LevelMode, LineOrder, SampleType, TileDescription};
 use layout::description::LayerDescription;
 use numbers::rounding::RoundingMode;
 use numbers::vec2::Vec2;
@@ -65,7 +64,7 @@ pub fn decode(bytes: &[u8]) -> Option<(Command, &[u8])>
 fn channel(bytes: &[u8]) -> Option<(Command, &[u8])>
     ensures { seen result ≡ read_command (67 ∷ bytes.now) }
 {
-    let (code, rest) = read::byte(bytes)?;
+    let (code, rest) = operand::byte(bytes)?;
     Some((Command::C(sample_type(code)?), rest))
 }
 
@@ -73,8 +72,8 @@ fn scan_lines(bytes: &[u8]) -> Option<(Command, &[u8])>
     ensures { seen result ≡ read_command (83 ∷ bytes.now) }
 {
     let ((layer_position, layer_size), rest) = window(bytes)?;
-    let (lines, rest) = read::half(rest)?;
-    let (order, rest) = read::byte(rest)?;
+    let (lines, rest) = operand::half(rest)?;
+    let (order, rest) = operand::byte(rest)?;
     let description = LayerDescription {
         layer_position,
         layer_size,
@@ -91,7 +90,7 @@ fn tiles(bytes: &[u8]) -> Option<(Command, &[u8])>
     ensures { seen result ≡ read_command (84 ∷ bytes.now) }
 {
     let ((layer_position, layer_size), rest) = window(bytes)?;
-    let (tile_size, rest) = read::sizes(rest)?;
+    let (tile_size, rest) = operand::sizes(rest)?;
     let [mode, rounding, order, rest @ ..] = rest else {
         return None;
     };
@@ -115,15 +114,15 @@ fn tiles(bytes: &[u8]) -> Option<(Command, &[u8])>
 fn beginning(bytes: &[u8]) -> Option<(Command, &[u8])>
     ensures { seen result ≡ read_command (79 ∷ bytes.now) }
 {
-    let (first_offset, rest) = read::long(bytes)?;
+    let (first_offset, rest) = operand::long(bytes)?;
     Some((Command::O { first_offset }, rest))
 }
 
 fn placing(bytes: &[u8]) -> Option<(Command, &[u8])>
     ensures { seen result ≡ read_command (80 ∷ bytes.now) }
 {
-    let (number, rest) = read::long(bytes)?;
-    let (length, rest) = read::word(rest)?;
+    let (number, rest) = operand::long(bytes)?;
+    let (length, rest) = operand::word(rest)?;
     Some((
         Command::P {
             number: number as usize,
@@ -136,7 +135,7 @@ fn placing(bytes: &[u8]) -> Option<(Command, &[u8])>
 fn query(bytes: &[u8]) -> Option<(Command, &[u8])>
     ensures { seen result ≡ read_command (81 ∷ bytes.now) }
 {
-    let (number, rest) = read::long(bytes)?;
+    let (number, rest) = operand::long(bytes)?;
     Some((
         Command::Q {
             number: number as usize,
@@ -148,14 +147,15 @@ fn query(bytes: &[u8]) -> Option<(Command, &[u8])>
 fn line_lookup(bytes: &[u8]) -> Option<(Command, &[u8])>
     ensures { seen result ≡ read_command (89 ∷ bytes.now) }
 {
-    let (y, rest) = read::int(bytes)?;
+    let (y, rest) = operand::int(bytes)?;
     Some((Command::Y { y }, rest))
 }
 
 fn tile_lookup(bytes: &[u8]) -> Option<(Command, &[u8])>
     ensures { seen result ≡ read_command (88 ∷ bytes.now) }
 {
-    let ((tile_index, level_index), rest) = read::int_pairs(bytes)?;
+    let (tile_index, rest) = operand::ints(bytes)?;
+    let (level_index, rest) = operand::ints(rest)?;
     Some((
         Command::X {
             tile_index,
@@ -169,8 +169,8 @@ fn tile_lookup(bytes: &[u8]) -> Option<(Command, &[u8])>
 fn window(bytes: &[u8]) -> Option<((Vec2<i32>, Vec2<usize>), &[u8])>
     ensures { seen result ≡ taken 16 (ints_at bytes.now 0, words_at bytes.now 8) bytes.now }
 {
-    let (position, rest) = read::ints(bytes)?;
-    let (size, rest) = read::sizes(rest)?;
+    let (position, rest) = operand::ints(bytes)?;
+    let (size, rest) = operand::sizes(rest)?;
     Some(((position, size), rest))
 }
 

@@ -1,2 +1,5 @@
 // The commands of the program, read from bytes.
+#![tactic(auto)]
+
 pub mod command;
+pub mod operand;

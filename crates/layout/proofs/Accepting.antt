@@ -20,8 +20,7 @@ use Rattle.schemes.specs.Lists.{mip_is, rip_is}
 use Rattle.layout.specs.Acceptance.{Laid, accepted, broken_channel, broken_rule, cut_into, good_tile, laid_out, meaning_of, mode_levels, states}
 use Rattle.layout.specs.Asked.{good_blocks, scheme_of}
 use Rattle.layout.specs.Channels.{pixel_bytes, sample_bytes}
-use Rattle.schemes.specs.Windows.{axis_fits, window_fits, Placed}
-use Rattle.layout.specs.Windows.{good_lines, good_side}
+use Rattle.layout.specs.Windows.{axis_fits, window_fits, good_lines, good_side, Placed}
 use Rattle.layout.specs.declared.attribute.BlockDescription.{BlockDescription}
 use Rattle.layout.specs.declared.attribute.BlockDescription.TheVariants.{ScanLines, Tiles}
 use Rattle.layout.specs.declared.attribute.ChannelDescription.{ChannelDescription}
@@ -93,9 +92,6 @@ good n a b = and_from _ _ (le-leb 1 n a) (le-leb n 2147483647 b)
 lines_good : (n : ℕ) → good_lines n ≡ true → good_side n ≡ true
 lines_good n e = grind (arith, nat_tests)
 
-pub few_lines : (n : ℕ) → good_lines n ≡ true → (1 ≤ n) × (n ≤ 256)
-few_lines n e = (grind (arith, nat_tests), grind (arith, nat_tests))
-
 blocks_good : (b : BlockDescription) (lines : ℕ) → good_lines lines ≡ true → good_tile b ≡ true → good_blocks b lines ≡ true
 blocks_good ScanLines lines l t = lines_good lines l
 blocks_good (Tiles x) lines l t = t
@@ -151,9 +147,9 @@ counted d cs e f =
     let by_rule : Option ℕ → Result Laid Told = λ o. elim o [ Some number ↦ Err (refused number 4 0) | None ↦ by_channel (broken_channel d 0 cs) ] in
     ap by_rule (sym e) ∙ ap by_channel (sym f)
 
-pub same_laid : (d : LayerDescription) (cs : List ChannelDescription) (m : Meaning) (bytes chunks : ℕ) → m ≡ meaning_of d → bytes ≡ pixel_bytes cs → chunks ≡ chunks_in (meaning_of d) → record { position = d.layer_position; order = d.line_order; scheme = m; lines = d.lines_per_block; bytes = bytes; chunks = chunks } ≡ laid_out d cs
+pub same_laid : (d : LayerDescription) (cs : List ChannelDescription) (m : Meaning) (bytes chunks : ℕ) → m ≡ meaning_of d → bytes ≡ pixel_bytes cs → chunks ≡ chunks_in (meaning_of d) → record { position = d.layer_position; order = d.line_order; scheme = m; bytes = bytes; chunks = chunks } ≡ laid_out d cs
 same_laid d cs m bytes chunks p q r =
-    let with : Meaning → ℕ → ℕ → Laid = λ m b n. record { position = d.layer_position; order = d.line_order; scheme = m; lines = d.lines_per_block; bytes = b; chunks = n } in
+    let with : Meaning → ℕ → ℕ → Laid = λ m b n. record { position = d.layer_position; order = d.line_order; scheme = m; bytes = b; chunks = n } in
     ap (λ x. with x bytes chunks) p ∙ ap (λ x. with (meaning_of d) x chunks) q ∙ ap (with (meaning_of d) (pixel_bytes cs)) r
 
 -- a product with the bytes of a pixel is the sum of the products with the bytes of the samples

@@ -1,5 +1,2 @@
 pub mod Rows
 pub mod Accepting
-pub mod Taking
-pub mod Planes
-pub mod Prefixed

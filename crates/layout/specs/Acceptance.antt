@@ -9,15 +9,14 @@ use Rattle.schemes.specs.Meanings.{Meaning}
 use Rattle.schemes.specs.Schemes.{in_lines, in_tiles}
 use Rattle.schemes.specs.declared.level.Level.{Level}
 use Rattle.layout.specs.Channels.{pixel_bytes}
-use Rattle.schemes.specs.Windows.{window_fits}
-use Rattle.layout.specs.Windows.{divides, good_lines, good_side}
+use Rattle.layout.specs.Windows.{window_fits, divides, good_lines, good_side}
 use Rattle.layout.specs.declared.attribute.BlockDescription.{BlockDescription}
 use Rattle.layout.specs.declared.attribute.BlockDescription.TheVariants.{ScanLines, Tiles}
 use Rattle.layout.specs.declared.attribute.ChannelDescription.{ChannelDescription}
 use Rattle.layout.specs.declared.attribute.LevelMode.{LevelMode}
 use Rattle.layout.specs.declared.attribute.LevelMode.TheVariants.{Singular, MipMap, RipMap}
-use Rattle.blocks.specs.declared.line_order.LineOrder.{LineOrder}
-use Rattle.blocks.specs.declared.line_order.LineOrder.TheVariants.{Increasing, Decreasing, Unspecified}
+use Rattle.layout.specs.declared.attribute.LineOrder.{LineOrder}
+use Rattle.layout.specs.declared.attribute.LineOrder.TheVariants.{Increasing, Decreasing, Unspecified}
 use Rattle.layout.specs.declared.description.LayerDescription.{LayerDescription}
 
 -- the levels of a w by h image in this mode
@@ -95,14 +94,12 @@ pub record Laid : Type 0 where
   pub position : Vec2 ℤ
   pub order : LineOrder
   pub scheme : Meaning
-  -- the lines of a scan line block
-  pub lines : ℕ
   -- the bytes of one pixel, over all channels
   pub bytes : ℕ
   pub chunks : ℕ
 
 abbrev pub laid_out : LayerDescription → List ChannelDescription → Laid
-laid_out d cs = record { position = d.layer_position; order = d.line_order; scheme = meaning_of d; lines = d.lines_per_block; bytes = pixel_bytes cs; chunks = chunks_in (meaning_of d) }
+laid_out d cs = record { position = d.layer_position; order = d.line_order; scheme = meaning_of d; bytes = pixel_bytes cs; chunks = chunks_in (meaning_of d) }
 
 -- a description is laid out, or refused by the first rule that it breaks, in rising order
 abbrev pub accepted : LayerDescription → List ChannelDescription → Result Laid Told

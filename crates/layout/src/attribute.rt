@@ -13,6 +13,14 @@ pub enum SampleType {
     F32,
 }
 
+// The order in which the blocks stand in the file.
+#[derive(Clone, Copy, PartialEq, Eq, Debug)]
+pub enum LineOrder {
+    Increasing,
+    Decreasing,
+    Unspecified,
+}
+
 // Which smaller copies of the image are stored beside it.
 #[derive(Clone, Copy, PartialEq, Eq, Debug)]
 pub enum LevelMode {

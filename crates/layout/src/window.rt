@@ -1,7 +1,6 @@
 // The limits of a layer's window, and what divides it.
 ghost use Rattle.std.specs.Prelude.{◌≡◌, ◌<◌};
-ghost use Rattle.layout.specs.Windows.{divides};
-ghost use Rattle.schemes.specs.Windows.{axis_fits};
+ghost use Rattle.layout.specs.Windows.{axis_fits, divides};
 
 const WINDOW_LIMIT: i64 = 1073741823;
 

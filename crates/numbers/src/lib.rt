@@ -1,4 +1,6 @@
 // Whole numbers, pairs, logarithms and rounded quotients, refusals, and counting along one side of a layer.
+#![tactic(auto)]
+
 pub mod counts;
 pub mod logs;
 pub mod refusal;

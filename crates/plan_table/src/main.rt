@@ -1,4 +1,6 @@
 // Replays a table of plans: each line of hexadecimal bytes is a session of its own; a line after `#` is told again.
+#![tactic(auto)]
+
 ghost use Rattle.std.specs.Prelude.{◌<◌, IfSome};
 
 use session::transcript::transcript;

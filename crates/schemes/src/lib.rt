@@ -1,4 +1,6 @@
 // Level schemes: how the levels of a layer are listed and cut into blocks, and how many blocks that makes.
+#![tactic(auto)]
+
 pub mod any_scheme;
 mod axis;
 pub mod chunk_count;

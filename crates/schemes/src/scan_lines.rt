@@ -1,6 +1,6 @@
 // Scan lines: one level, in blocks as wide as the layer and some lines high.
 ghost use Rattle.schemes.specs.Schemes.{scan_lines_meaning};
-ghost use Rattle.std.proofs.Common.{rules};
+ghost use Rattle.schemes.specs.Chosen.{scan_lines_lawful};
 
 use crate::level::{Level, Naming};
 use crate::scheme::Scheme;
@@ -17,7 +17,7 @@ pub struct ScanLines {
 impl Scheme for ScanLines {
     ghost meaning = { scan_lines_meaning };
 
-    ghost lawful = { Prim.search rules };
+    ghost lawful = { scan_lines_lawful };
 
     fn level_count(&self) -> usize {
         1

@@ -1,6 +1,6 @@
 // Tiles at one level.
 ghost use Rattle.schemes.specs.Schemes.{single_meaning};
-ghost use Rattle.std.proofs.Common.{rules};
+ghost use Rattle.schemes.specs.Chosen.{single_lawful};
 
 use crate::level::{Level, Naming};
 use crate::scheme::Scheme;
@@ -17,7 +17,7 @@ pub struct Single {
 impl Scheme for Single {
     ghost meaning = { single_meaning };
 
-    ghost lawful = { Prim.search rules };
+    ghost lawful = { single_lawful };
 
     fn level_count(&self) -> usize {
         1

@@ -8,13 +8,10 @@ use Rattle.layout.specs.Totals.{fitting, total_bytes}
 use Rattle.layout.specs.declared.attribute.ChannelDescription.{ChannelDescription}
 use Rattle.layout.specs.declared.attribute.SampleType.{SampleType}
 use Rattle.layout.specs.declared.description.LayerDescription.{LayerDescription}
-use Rattle.prefixes.specs.Lookup.{looked_up}
-use Rattle.prefixes.specs.declared.coordinates.BlockCoordinates.{BlockCoordinates}
-use Rattle.prefixes.specs.declared.coordinates.BlockCoordinates.TheVariants.{Line, Tile}
 use Rattle.commands.specs.declared.command.Command.{Command}
 use Rattle.commands.specs.declared.command.Command.TheVariants.{C, S, T, O, F, B, P, N, Q, Y, X}
 use Rattle.session.specs.declared.answer.Answer.{Answer}
-use Rattle.session.specs.declared.answer.Answer.TheVariants.{Block as Numbered, Channels as Counted, Layer as Measured, Refused}
+use Rattle.session.specs.declared.answer.Answer.TheVariants.{Channels as Counted, Layer as Measured, Refused}
 use Rattle.session.specs.declared.channels.Channels.{Channels}
 use Rattle.session.specs.declared.session.Session.{Session}
 use Rattle.session.specs.declared.session.Session.TheVariants.{Nothing, Laid as Holds}
@@ -50,7 +47,6 @@ Said = Result (List ℕ) Told
 abbrev pub said : Answer → Said
 said (Counted n) = Ok (n ∷ [])
 said (Measured chunks bytes) = Ok (chunks ∷ (bytes ∷ []))
-said (Numbered n) = Ok (n ∷ [])
 said (Refused r) = Err (told r)
 
 -- what a command left of a session, with its answer
@@ -94,24 +90,6 @@ on_channels cs (Q number) = stays (channels cs) not_now
 on_channels cs (Y y) = stays (channels cs) not_now
 on_channels cs (X tile level) = stays (channels cs) not_now
 
--- a lookup on a layer: the number of the block that has the coordinates
-abbrev pub found_in : Laid → BlockCoordinates → Held × Said
-found_in l c = elim (looked_up l.scheme l.position c) [ Ok number ↦ (layer l, Ok (number ∷ [])) | Err why ↦ stays (layer l) why ]
-
--- `Y` looks up a line, `X` a tile
-abbrev pub on_layer : Laid → Command → Held × Said
-on_layer l (C t) = stays (layer l) not_now
-on_layer l (S d) = stays (layer l) not_now
-on_layer l (T d) = stays (layer l) not_now
-on_layer l (O first) = stays (layer l) not_now
-on_layer l F = stays (layer l) not_now
-on_layer l B = stays (layer l) not_now
-on_layer l (P number length) = stays (layer l) not_now
-on_layer l N = stays (layer l) not_now
-on_layer l (Q number) = stays (layer l) not_now
-on_layer l (Y y) = found_in l (Line y)
-on_layer l (X tile level) = found_in l (Tile tile level)
-
 abbrev pub stepped : Held → Command → Held × Said
 stepped (channels cs) command = on_channels cs command
-stepped (layer l) command = on_layer l command
+stepped (layer l) command = stays (layer l) not_now

@@ -9,7 +9,5 @@ pub enum Answer {
         chunk_count: usize,
         total_pixel_bytes: usize,
     },
-    // The number of the block that was looked up.
-    Block(usize),
     Refused(Refusal),
 }

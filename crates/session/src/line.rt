@@ -23,7 +23,6 @@ impl fmt::Display for Line {
                     chunk_count,
                     total_pixel_bytes,
                 } => write!(f, "{letter} ok {chunk_count} {total_pixel_bytes}"),
-                Answer::Block(number) => write!(f, "{letter} ok {number}"),
                 Answer::Refused(refusal) => {
                     let number = refusal.number();
                     write!(f, "{letter} no {number}")

@@ -1,7 +1,6 @@
 // A session: what it holds, and what each command makes of it.
 ghost use Rattle.std.specs.Prelude.{◌≡◌};
-ghost use Rattle.layout.specs.Layers.{laid};
-ghost use Rattle.session.specs.Sessions.{added_to, channels_of, found_in, held, laid_out_in, shown, stepped};
+ghost use Rattle.session.specs.Sessions.{added_to, channels_of, held, laid_out_in, shown, stepped};
 
 use crate::answer::Answer;
 use crate::channels::Channels;
@@ -10,7 +9,6 @@ use layout::attribute::SampleType;
 use layout::description::LayerDescription;
 use layout::layer::Layer;
 use numbers::refusal::{Module, Reason, Refusal};
-use prefixes::coordinates::BlockCoordinates;
 
 #[derive(Drop)]
 pub enum Session {
@@ -50,16 +48,6 @@ fn lay_out(channels: Channels, description: LayerDescription) -> (Session, Answe
     }
 }
 
-fn find(layer: Layer, coordinates: BlockCoordinates) -> (Session, Answer)
-    ensures { shown result ≡ found_in (laid layer) coordinates }
-{
-    let answer = match layer.lookup(coordinates) {
-        Ok(number) => Answer::Block(number),
-        Err(refusal) => Answer::Refused(refusal),
-    };
-    (Session::Laid(layer), answer)
-}
-
 // Takes one command. One that is not allowed now is refused first of all, and a refused one changes nothing.
 pub fn step(session: Session, command: Command) -> (Session, Answer)
     ensures { shown result ≡ stepped (held session) command }
@@ -68,20 +56,6 @@ pub fn step(session: Session, command: Command) -> (Session, Answer)
         (Session::Nothing(channels), Command::C(sample_type)) => add_channel(channels, sample_type),
         (Session::Nothing(channels), Command::S(description)) => lay_out(channels, description),
         (Session::Nothing(channels), Command::T(description)) => lay_out(channels, description),
-        (Session::Laid(layer), Command::Y { y }) => find(layer, BlockCoordinates::Line { y }),
-        (
-            Session::Laid(layer),
-            Command::X {
-                tile_index,
-                level_index,
-            },
-        ) => find(
-            layer,
-            BlockCoordinates::Tile {
-                tile_index,
-                level_index,
-            },
-        ),
         (other, _) => (
             other,
             Answer::Refused(Refusal {

@@ -7,11 +7,10 @@ ghost use Rattle.numbers.specs.Refusals.{outcome_as};
 ghost use Rattle.schemes.specs.Blocks.{chunks_in};
 ghost use Rattle.schemes.specs.Schemes.{any_meaning};
 
-use crate::attribute::ChannelDescription;
+use crate::attribute::{ChannelDescription, LineOrder};
 use crate::channel::bytes_per_pixel;
 use crate::description::LayerDescription;
 use crate::layer::Layer;
-use blocks::line_order::LineOrder;
 use numbers::refusal::{Module, Reason, Refusal};
 use numbers::vec2::Vec2;
 use schemes::any_scheme::AnyScheme;
@@ -61,7 +60,6 @@ impl Layer {
             position: description.layer_position,
             line_order: description.line_order,
             scheme,
-            lines_per_block: description.lines_per_block,
             bytes_per_pixel: bytes_per_pixel(channels),
             chunk_count,
         })

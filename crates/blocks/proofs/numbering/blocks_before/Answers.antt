@@ -5,16 +5,16 @@ use Rattle.schemes.specs.Meanings.{Meaning, Lawful, block_size}
 use Rattle.schemes.specs.Counting.{nth_none, so_far_fits, sum_step}
 use Rattle.blocks.proofs.Cutting.{is_cut, no_cut, cut_blocks, cut_fits}
 use Rattle.blocks.proofs.numbering.blocks_before.Goals as goal
-use Rattle.blocks.proofs.numbering.blocks_before.Goals.{in-Some, in-default}
+use Rattle.blocks.proofs.numbering.blocks_before.Goals.{in-Some, in_default}
 
-pub overflow-mul-total : goal.overflow-mul-total
-overflow-mul-total g c =
+pub overflow_mul-total : goal.overflow_mul-total
+overflow_mul-total g c =
     let m = g.S.Scheme.meaning c.args.scheme.now in
     let ok : Lawful m = g.met.S.Scheme.lawful c.args.scheme.now in
     record { fits = cut_fits m ok c.loop-earlier.earlier c.in-Some.cut (is_cut (block_size m) _ _ c.in-Some.ensures) }
 
-pub overflow-add-total : goal.overflow-add-total
-overflow-add-total g c =
+pub overflow_add-total : goal.overflow_add-total
+overflow_add-total g c =
     let m = g.S.Scheme.meaning c.args.scheme.now in
     let ok : Lawful m = g.met.S.Scheme.lawful c.args.scheme.now in
     let size = block_size m in
@@ -30,15 +30,15 @@ loop-earlier-preserved g c =
     let m = g.S.Scheme.meaning c.args.scheme.now in
     let size = block_size m in
     let i = c.loop-earlier.earlier in
-    elim c.match-cut-level.branch [
+    elim c.match-cut_level.branch [
       | in-Some w ↦
           let k = w.in-Some.cut in
           let cut = is_cut size (slice_get m.levels i) k w.in-Some.ensures in
           let is = cut_blocks size _ k cut in
           let step = sum_step (blocks_in size) m.levels i k.level cut.there in
           omega (arith, w.total-is, c.loop-earlier.invariant)
-      | in-default w ↦
-          let past = nth_none m.levels i (no_cut size _ w.in-default.ensures) in
+      | in_default w ↦
+          let past = nth_none m.levels i (no_cut size _ w.in_default.ensures) in
           let none : ⊥ = omega (arith, c.requires, c.loop-earlier-test.true) in
           elim none [ ]
     ]

@@ -6,26 +6,26 @@ use Rattle.blocks.proofs.Cutting.{is_cut}
 use Rattle.blocks.proofs.Numbers.{number_fits}
 use Rattle.blocks.proofs.numbering.number_of_block.Goals as goal
 
-pub blocks-before-requires : goal.blocks-before-requires
-blocks-before-requires g c =
+pub blocks_before-requires : goal.blocks_before-requires
+blocks_before-requires g c =
     let m = g.S.Scheme.meaning c.args.scheme.now in
     let cut = is_cut (block_size m) (slice_get m.levels c.args.position) c.in-Some.cut c.in-Some.ensures in
     omega (arith, (nth_some m.levels c.args.position c.in-Some.cut.level (sym cut.there)).0)
 
-pub overflow-mul-result : goal.overflow-mul-result
-overflow-mul-result g c =
+pub overflow_mul-result : goal.overflow_mul-result
+overflow_mul-result g c =
     let m = g.S.Scheme.meaning c.args.scheme.now in
     let cut = is_cut (block_size m) (slice_get m.levels c.args.position) c.in-Some.cut c.in-Some.ensures in
-    omega (arith, number_fits m (g.met.S.Scheme.lawful c.args.scheme.now) c.args.position c.args.row c.args.column c.in-Some.cut cut c.if-row-cut.true c.if-column-cut.true, c.blocks-before.ensures)
+    omega (arith, number_fits m (g.met.S.Scheme.lawful c.args.scheme.now) c.args.position c.args.row c.args.column c.in-Some.cut cut c.if-row-cut.true c.if-column-cut.true, c.blocks_before.ensures)
 
-pub overflow-add-result : goal.overflow-add-result
-overflow-add-result g c =
+pub overflow_add-result : goal.overflow_add-result
+overflow_add-result g c =
     let m = g.S.Scheme.meaning c.args.scheme.now in
     let cut = is_cut (block_size m) (slice_get m.levels c.args.position) c.in-Some.cut c.in-Some.ensures in
-    omega (arith, number_fits m (g.met.S.Scheme.lawful c.args.scheme.now) c.args.position c.args.row c.args.column c.in-Some.cut cut c.if-row-cut.true c.if-column-cut.true, c.blocks-before.ensures)
+    omega (arith, number_fits m (g.met.S.Scheme.lawful c.args.scheme.now) c.args.position c.args.row c.args.column c.in-Some.cut cut c.if-row-cut.true c.if-column-cut.true, c.blocks_before.ensures)
 
-pub overflow-add-result-then-column-cut : goal.overflow-add-result-then-column-cut
-overflow-add-result-then-column-cut g c =
+pub overflow_add-result-then-column-cut : goal.overflow_add-result-then-column-cut
+overflow_add-result-then-column-cut g c =
     let m = g.S.Scheme.meaning c.args.scheme.now in
     let cut = is_cut (block_size m) (slice_get m.levels c.args.position) c.in-Some.cut c.in-Some.ensures in
-    omega (arith, number_fits m (g.met.S.Scheme.lawful c.args.scheme.now) c.args.position c.args.row c.args.column c.in-Some.cut cut c.if-row-cut.true c.if-column-cut.true, c.blocks-before.ensures)
+    omega (arith, number_fits m (g.met.S.Scheme.lawful c.args.scheme.now) c.args.position c.args.row c.args.column c.in-Some.cut cut c.if-row-cut.true c.if-column-cut.true, c.blocks_before.ensures)

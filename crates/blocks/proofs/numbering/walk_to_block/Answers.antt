@@ -12,13 +12,13 @@ use Rattle.blocks.specs.declared.line_order.LineOrder.TheVariants.{Increasing}
 use Rattle.blocks.proofs.Cutting.{is_cut, no_cut, cut_blocks, cut_fits}
 use Rattle.blocks.proofs.Listing.{hit, miss}
 use Rattle.blocks.proofs.numbering.walk_to_block.Goals as goal
-use Rattle.blocks.proofs.numbering.walk_to_block.Goals.{in-Some+else-rest-blocks, in-default}
+use Rattle.blocks.proofs.numbering.walk_to_block.Goals.{in-Some+else-rest-blocks, in_default}
 
 abbrev answer : Option Block → Result Block Told
 answer o = elim o [ Some b ↦ Ok b | None ↦ Err (refused 23 3 0) ]
 
-pub overflow-mul-blocks : goal.overflow-mul-blocks
-overflow-mul-blocks g c =
+pub overflow_mul-blocks : goal.overflow_mul-blocks
+overflow_mul-blocks g c =
     let m = g.S.Scheme.meaning c.args.scheme.now in
     let ok : Lawful m = g.met.S.Scheme.lawful c.args.scheme.now in
     record { fits = cut_fits m ok c.loop-position.position c.in-Some.cut (is_cut (block_size m) _ _ c.in-Some.ensures) }
@@ -40,7 +40,7 @@ loop-position-preserved g c =
     let m = g.S.Scheme.meaning c.args.scheme.now in
     let size = block_size m in
     let i = c.loop-position.position in
-    elim c.match-cut-level.branch [
+    elim c.match-cut_level.branch [
       | in-Some+else-rest-blocks w ↦
           let k = w.in-Some.cut in
           let n = c.loop-position.rest in
@@ -51,9 +51,9 @@ loop-position-preserved g c =
           ap next w.rest-is ∙ ap (λ x. next (n - x)) is
           ∙ sym (miss size m.levels i k.level n cut.there more)
           ∙ c.loop-position.invariant
-      | in-default w ↦
-          let past = nth_none m.levels i (no_cut size _ w.in-default.ensures) in
-          let none : ⊥ = omega (arith, c.level-count-position-end.ensures, c.loop-position-test.true) in
+      | in_default w ↦
+          let past = nth_none m.levels i (no_cut size _ w.in_default.ensures) in
+          let none : ⊥ = omega (arith, c.level_count-position-end.ensures, c.loop-position-test.true) in
           elim none [ ]
     ]
 
@@ -61,5 +61,5 @@ pub returns : goal.returns
 unfolding blocks_from
 returns g c =
     let m = g.S.Scheme.meaning c.args.scheme.now in
-    let past : length m.levels ≤ c.loop-position.position = omega (arith, c.level-count-position-end.ensures) in
+    let past : length m.levels ≤ c.loop-position.position = omega (arith, c.level_count-position-end.ensures) in
     ap answer (sym (ap (λ (ks : List Level). slice_get (blocks_from Increasing (block_size m) c.loop-position.position ks) c.loop-position.rest) (drop_all c.loop-position.position m.levels past)) ∙ c.loop-position.invariant)

@@ -7,7 +7,7 @@ pub returns-in-C : goal.returns-in-C
 returns-in-C c = by_letter 67 c.args.bytes.now (search rules) c.from.ensures c.in-C.is c.channel.ensures
 
 pub returns-in-S : goal.returns-in-S
-returns-in-S c = by_letter 83 c.args.bytes.now (search rules) c.from.ensures c.in-S.is c.scan-lines.ensures
+returns-in-S c = by_letter 83 c.args.bytes.now (search rules) c.from.ensures c.in-S.is c.scan_lines.ensures
 
 pub returns-in-T : goal.returns-in-T
 returns-in-T c = by_letter 84 c.args.bytes.now (search rules) c.from.ensures c.in-T.is c.tiles.ensures
@@ -31,7 +31,7 @@ pub returns-in-Q : goal.returns-in-Q
 returns-in-Q c = by_letter 81 c.args.bytes.now (search rules) c.from.ensures c.in-Q.is c.query.ensures
 
 pub returns-in-Y : goal.returns-in-Y
-returns-in-Y c = by_letter 89 c.args.bytes.now (search rules) c.from.ensures c.in-Y.is c.line-lookup.ensures
+returns-in-Y c = by_letter 89 c.args.bytes.now (search rules) c.from.ensures c.in-Y.is c.line_lookup.ensures
 
 pub returns-in-X : goal.returns-in-X
-returns-in-X c = by_letter 88 c.args.bytes.now (search rules) c.from.ensures c.in-X.is c.tile-lookup.ensures
+returns-in-X c = by_letter 88 c.args.bytes.now (search rules) c.from.ensures c.in-X.is c.tile_lookup.ensures

@@ -5,14 +5,14 @@ use Rattle.fields.proofs.write.write_ints.Goals as goal
 
 pub returns-then-buffer-count : goal.returns-then-buffer-count
 returns-then-buffer-count c =
-    record { answer = none_fit _ _ (omega (arith, c.in-ok-count.ensures)); written = unwritten _ _ (omega (arith, c.in-ok-count.ensures)) }
+    record { answer = none_fit _ _ (omega (arith, c.in_ok-count.ensures)); written = unwritten _ _ (omega (arith, c.in_ok-count.ensures)) }
 
 pub loop-i-preserved : goal.loop-i-preserved
 loop-i-preserved c =
     let z = get_or c.args.fields.now c.loop-i.i (pos 0) in
     let fits : SFits w32 (get_or c.args.fields.now c.loop-i.i (pos 0)) = search rules in
-    written_more c.loop-i.i c.args.fields.now (to_z w32 (of_z w32 z)) c.args.buffer.now c.loop-i.buffer _ c.loop-i-test.true (to_z-of_z fits) c.loop-i.invariant c.write-int.ensures
+    written_more c.loop-i.i c.args.fields.now (to_z w32 (of_z w32 z)) c.args.buffer.now c.loop-i.buffer _ c.loop-i-test.true (to_z-of_z fits) c.loop-i.invariant c.write_int.ensures
 
 pub returns : goal.returns
 returns c =
-    record { answer = some_fit _ c.args.fields.now c.args.buffer.now (omega (arith, c.in-ok-count.ensures)) (omega arith); written = written_all c.loop-i.i c.args.fields.now c.args.buffer.now _ (omega arith) (omega (arith, c.in-ok-count.ensures)) c.loop-i.invariant }
+    record { answer = some_fit _ c.args.fields.now c.args.buffer.now (omega (arith, c.in_ok-count.ensures)) (omega arith); written = written_all c.loop-i.i c.args.fields.now c.args.buffer.now _ (omega arith) (omega (arith, c.in_ok-count.ensures)) c.loop-i.invariant }

@@ -15,10 +15,10 @@ pub loop-channel-preserved : goal.loop-channel-preserved
 loop-channel-preserved c =
     let cs = c.args.channels.now in
     let i = c.loop-channel.channel-index in
-    let e = c.bytes-per-sample-bytes.ensures in
+    let e = c.bytes_per_sample-bytes.ensures in
     let more = sum_by_more (λ (x : ChannelDescription). sample_bytes x.sample_type) cs i _ c.loop-channel-test.true in
-    let few : c.bytes-per-sample-bytes.result ≤ 4 = at_most_4 _ _ e in
-    (ap (λ b. b + c.bytes-per-sample-bytes.result) c.loop-channel.invariant.0 ∙ ap (λ b. pixel_bytes (take i cs) + b) e ∙ sym more, omega arith)
+    let few : c.bytes_per_sample-bytes.result ≤ 4 = at_most_4 _ _ e in
+    (ap (λ b. b + c.bytes_per_sample-bytes.result) c.loop-channel.invariant.0 ∙ ap (λ b. pixel_bytes (take i cs) + b) e ∙ sym more, omega arith)
 
 pub returns : goal.returns
 returns c = c.loop-channel.invariant.0 ∙ ap pixel_bytes (take_all _ _ c.loop-channel-test.false)

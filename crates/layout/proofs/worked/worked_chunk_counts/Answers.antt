@@ -1,5 +1,4 @@
 use Rattle.std.proofs.Common.{◌≡◌, ℕ, List, [], ◌∷◌, Option, refl, ap, ◌∙◌}
-use Rattle.blocks.specs.Numbering.{blocks_from, level_blocks}
 use Rattle.layout.specs.Worked.{chunks_of}
 use Rattle.layout.proofs.worked.worked_chunk_counts.Goals as goal
 
@@ -10,16 +9,15 @@ equal : (a b c d e f p q r s t u : Option ℕ) → a ≡ p → b ≡ q → c ≡
 equal a b c d e f p q r s t u i j k l m n = cc
 
 pub returns : goal.returns
-unfolding level_blocks blocks_from
 returns c =
     record {
       counts = equal _ _ _ _ _ _ _ _ _ _ _ _
-          (c.chunks.ensures ∙ ap chunks_of c.five-by-three.ensures)
-          (c.chunks-2.ensures ∙ ap chunks_of c.five-by-three-2.ensures)
-          (c.chunks-3.ensures ∙ ap chunks_of c.five-by-three-3.ensures)
-          (c.chunks-4.ensures ∙ ap chunks_of c.five-by-three-4.ensures)
-          (c.chunks-5.ensures ∙ ap chunks_of c.five-by-three-5.ensures)
-          (c.chunks-6.ensures ∙ ap chunks_of c.thirty-three-lines.ensures);
+          (c.chunks.ensures ∙ ap chunks_of c.five_by_three.ensures)
+          (c.chunks-2.ensures ∙ ap chunks_of c.five_by_three-2.ensures)
+          (c.chunks-3.ensures ∙ ap chunks_of c.five_by_three-3.ensures)
+          (c.chunks-4.ensures ∙ ap chunks_of c.five_by_three-4.ensures)
+          (c.chunks-5.ensures ∙ ap chunks_of c.five_by_three-5.ensures)
+          (c.chunks-6.ensures ∙ ap chunks_of c.thirty_three_lines.ensures);
       stated = record {
         single = refl;
         mip_down = refl;
@@ -33,17 +31,6 @@ returns c =
         longest_up = refl;
         widest = refl;
         too_wide = refl;
-        far_corner = refl;
-        next_level = refl;
-        rising = refl;
-        falling = refl;
-        unspecified = refl;
-        no_level = refl;
-        last_line = refl;
-        from_below = refl;
-        above_row = refl;
-        above_block = refl;
-        second_block = refl;
         mip_15_17_down = refl;
         mip_15_17_up = refl;
         rip_4_4 = refl;

@@ -10,6 +10,6 @@ positive l h =
     let some = pow_pos l in
     omega arith
 
-pub returns-in-err-size : goal.returns-in-err-size
-returns-in-err-size c =
-    never_refused _ _ _ _ (positive c.args.level-index (omega arith)) c.in-err-size.ensures.value
+pub returns-in_err-size : goal.returns-in_err-size
+returns-in_err-size c =
+    never_refused _ _ _ _ (positive c.args.level_index (omega arith)) c.in_err-size.ensures.value

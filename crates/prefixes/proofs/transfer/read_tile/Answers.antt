@@ -4,12 +4,12 @@ use Rattle.prefixes.specs.declared.coordinates.BlockCoordinates.TheVariants.{Til
 use Rattle.prefixes.proofs.Reading.{tile_cut, tile_read}
 use Rattle.prefixes.proofs.transfer.read_tile.Goals as goal
 
-pub returns-in-err-data-length : goal.returns-in-err-data-length
-returns-in-err-data-length c =
-    rw c.from-residual-in-err-data-length.ensures (tile_cut _ _ _ _ _ _ c.in-ok-tile-index.ensures c.in-err-data-length.ensures)
+pub returns-in_err-data_length : goal.returns-in_err-data_length
+returns-in_err-data_length c =
+    rw c.from_residual-in_err-data_length.ensures (tile_cut _ _ _ _ _ _ c.in_ok-tile_index.ensures c.in_err-data_length.ensures)
 
 pub returns : goal.returns
 returns c =
-    let n : SFits w32 c.in-ok-data-length.data-length = search rules in
-    ap (λ (z : ℤ). Some (Tile c.in-ok-tile-index.tile-index c.in-ok-tile-index.level-index, z)) (to_z-of_z w32 c.in-ok-data-length.data-length n)
-    ∙ tile_read c.in-ok-tile-index.tile-index c.in-ok-tile-index.level-index c.in-ok-data-length.data-length c.args.bytes.now _ _ c.in-ok-tile-index.ensures c.in-ok-data-length.ensures
+    let n : SFits w32 c.in_ok-data_length.data_length = search rules in
+    ap (λ (z : ℤ). Some (Tile c.in_ok-tile_index.tile_index c.in_ok-tile_index.level_index, z)) (to_z-of_z w32 c.in_ok-data_length.data_length n)
+    ∙ tile_read c.in_ok-tile_index.tile_index c.in_ok-tile_index.level_index c.in_ok-data_length.data_length c.args.bytes.now _ _ c.in_ok-tile_index.ensures c.in_ok-data_length.ensures

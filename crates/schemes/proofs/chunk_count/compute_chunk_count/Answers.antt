@@ -3,15 +3,15 @@ use Rattle.schemes.specs.Blocks.{blocks_in}
 use Rattle.schemes.specs.Meanings.{Lawful, Meaning}
 use Rattle.schemes.proofs.chunk_count.compute_chunk_count.Goals as goal
 
-pub count-blocks-requires : goal.count-blocks-requires
-count-blocks-requires g c =
+pub count_blocks-requires : goal.count_blocks-requires
+count_blocks-requires g c =
     let m = g.S.Scheme.meaning c.args.scheme.now in
     let ok : Lawful m = g.met.S.Scheme.lawful c.args.scheme.now in
-    let across : c.block-size-block.result.0 ≡ m.block_width = ap (λ v. v.0) c.block-size-block.ensures in
-    let down : c.block-size-block.result.1 ≡ m.block_height = ap (λ v. v.1) c.block-size-block.ensures in
+    let across : c.block_size-block.result.0 ≡ m.block_width = ap (λ v. v.0) c.block_size-block.ensures in
+    let down : c.block_size-block.result.1 ≡ m.block_height = ap (λ v. v.1) c.block_size-block.ensures in
     record { across = omega (arith, ok.block_wide, ok.block_high); down = omega (arith, ok.block_wide, ok.block_high) }
 
 pub returns : goal.returns
 returns g c =
     let m = g.S.Scheme.meaning c.args.scheme.now in
-    c.count-blocks.ensures ∙ ap (λ b. sum_by (blocks_in b) m.levels) c.block-size-block.ensures
+    c.count_blocks.ensures ∙ ap (λ b. sum_by (blocks_in b) m.levels) c.block_size-block.ensures

@@ -3,10 +3,10 @@ use Rattle.schemes.specs.Blocks.{blocks_in}
 use Rattle.schemes.specs.Meanings.{Lawful}
 use Rattle.schemes.specs.Counting.{sum_step, one_fits, so_far_fits, nth_none}
 use Rattle.schemes.proofs.chunk_count.count_blocks.Goals as goal
-use Rattle.schemes.proofs.chunk_count.count_blocks.Goals.{in-Some, in-default}
+use Rattle.schemes.proofs.chunk_count.count_blocks.Goals.{in-Some, in_default}
 
-pub level-block-count-total-requires : goal.level-block-count-total-requires
-level-block-count-total-requires g c =
+pub level_block_count-total-requires : goal.level_block_count-total-requires
+level_block_count-total-requires g c =
     let m = g.S.Scheme.meaning c.args.scheme.now in
     record {
       across = c.requires.across;
@@ -14,12 +14,12 @@ level-block-count-total-requires g c =
       small = one_fits m (g.met.S.Scheme.lawful c.args.scheme.now) c.loop-position.position c.in-Some.level c.in-Some.ensures;
     }
 
-pub overflow-add-total : goal.overflow-add-total
-overflow-add-total g c =
+pub overflow_add-total : goal.overflow_add-total
+overflow_add-total g c =
     let m = g.S.Scheme.meaning c.args.scheme.now in
     let ok : Lawful m = g.met.S.Scheme.lawful c.args.scheme.now in
     let step = sum_step (blocks_in c.args.block) m.levels c.loop-position.position c.in-Some.level c.in-Some.ensures in
-    omega (arith, so_far_fits m ok c.args.block c.requires.across c.requires.down (c.loop-position.position + 1), c.loop-position.invariant, c.level-block-count-total.ensures)
+    omega (arith, so_far_fits m ok c.args.block c.requires.across c.requires.down (c.loop-position.position + 1), c.loop-position.invariant, c.level_block_count-total.ensures)
 
 pub loop-position-preserved : goal.loop-position-preserved
 loop-position-preserved g c =
@@ -27,15 +27,15 @@ loop-position-preserved g c =
     elim c.match-level.branch [
       | in-Some w ↦
           let step = sum_step (blocks_in c.args.block) m.levels c.loop-position.position w.in-Some.level w.in-Some.ensures in
-          omega (arith, w.total-is, w.level-block-count-total.ensures, c.loop-position.invariant)
-      | in-default w ↦
-          let past = nth_none m.levels c.loop-position.position w.in-default.ensures in
-          let none : ⊥ = omega (arith, c.level-count-position-end.ensures, c.loop-position-test.true) in
+          omega (arith, w.total-is, w.level_block_count-total.ensures, c.loop-position.invariant)
+      | in_default w ↦
+          let past = nth_none m.levels c.loop-position.position w.in_default.ensures in
+          let none : ⊥ = omega (arith, c.level_count-position-end.ensures, c.loop-position-test.true) in
           elim none [ ]
     ]
 
 pub returns : goal.returns
 returns g c =
     let m = g.S.Scheme.meaning c.args.scheme.now in
-    let past : length m.levels ≤ c.loop-position.position = omega (arith, c.level-count-position-end.ensures) in
+    let past : length m.levels ≤ c.loop-position.position = omega (arith, c.level_count-position-end.ensures) in
     c.loop-position.invariant ∙ ap (sum_by (blocks_in c.args.block)) (take_all _ _ past)

@@ -2,8 +2,8 @@ use Rattle.std.proofs.Common.{◌*◌, ◌≤◌, mul-le-mul, arith}
 use Rattle.schemes.specs.Counting.{ceiling_le}
 use Rattle.schemes.proofs.chunk_count.level_block_count.Goals as goal
 
-pub overflow-mul-result : goal.overflow-mul-result
-overflow-mul-result c =
-    let w : c.blocks-along.result ≤ c.args.level.width = omega (arith, ceiling_le c.args.level.width c.args.block.0 c.requires.across) in
-    let h : c.blocks-along-2.result ≤ c.args.level.height = omega (arith, ceiling_le c.args.level.height c.args.block.1 c.requires.down) in
+pub overflow_mul-result : goal.overflow_mul-result
+overflow_mul-result c =
+    let w : c.blocks_along.result ≤ c.args.level.width = omega (arith, ceiling_le c.args.level.width c.args.block.0 c.requires.across) in
+    let h : c.blocks_along-2.result ≤ c.args.level.height = omega (arith, ceiling_le c.args.level.height c.args.block.1 c.requires.down) in
     omega (arith, mul-le-mul w h)

@@ -21,7 +21,7 @@ loop-rest-preserved c =
           let run = one_more (length bytes) (held c.loop-rest.session) rest after c.in-Some.command c.from-letter.result (shown c.step-next.result) c.step-next.result.1 more
           c.in-Some.ensures c.from-letter.ensures c.step-next.ensures refl k in
           subst (λ (xs : List Line). Run (length bytes) (channels []) bytes xs)
-          (line_added (vec_items c.loop-rest.lines) (vec_items c.push-in-loop-rest.new.self) more line c.in-ok-push-2.ensures.items)
+          (line_added (vec_items c.loop-rest.lines) (vec_items c.push-in-loop-rest.new.self) more line c.in_ok-push-2.ensures.items)
           (c.loop-rest.invariant.1 (line ∷ more) run),
     )
 

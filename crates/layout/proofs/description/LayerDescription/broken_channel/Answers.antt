@@ -11,7 +11,7 @@ returns-in-Some c =
 
 pub loop-place-preserved : goal.loop-place-preserved
 loop-place-preserved c =
-    passes_here c.args.self.now c.args.channels.now c.loop-place.place _ c.loop-place-test.true c.in-default.ensures
+    passes_here c.args.self.now c.args.channels.now c.loop-place.place _ c.loop-place-test.true c.in_default.ensures
     ∙ c.loop-place.invariant
 
 pub returns : goal.returns

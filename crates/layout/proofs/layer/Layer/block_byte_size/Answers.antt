@@ -11,6 +11,6 @@ more pixels bytes h far =
       | inr g ↦ omega arith
     ]
 
-pub returns-in-default : goal.returns-in-default
-returns-in-default c =
-    sym (cond-false _ _ _ (lt-leb _ _ (more (c.args.size.0 * c.args.size.1) c.args.self.now.bytes_per_pixel c.args.self.now.sampled c.in-default.ensures)))
+pub returns-in_default : goal.returns-in_default
+returns-in_default c =
+    sym (cond-false _ _ _ (lt-leb _ _ (more (c.args.size.0 * c.args.size.1) c.args.self.now.bytes_per_pixel c.args.self.now.sampled c.in_default.ensures)))

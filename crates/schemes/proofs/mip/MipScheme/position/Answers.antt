@@ -4,10 +4,10 @@ use Rattle.schemes.specs.declared.level.Level.{Level}
 use Rattle.schemes.specs.Lists.{mip_length, mip_at, mip_is, mip_lawful}
 use Rattle.schemes.proofs.Placed.{placed, unplaced}
 use Rattle.schemes.proofs.mip.MipScheme.position.Goals as goal
-use Rattle.schemes.proofs.mip.MipScheme.position.Goals.{else-pair-via-then-pair+else-pair-level-count, else-pair-via-else-pair}
+use Rattle.schemes.proofs.mip.MipScheme.position.Goals.{else-pair-via-then-pair+else-pair-level_count, else-pair-via-else-pair}
 
-pub returns-then-pair-level-count : goal.returns-then-pair-level-count
-returns-then-pair-level-count c =
+pub returns-then-pair-level_count : goal.returns-then-pair-level_count
+returns-then-pair-level_count c =
     let s = c.args.self.now in
     let m = s.rounding_mode in
     let w = s.size.0.pixels in
@@ -16,7 +16,7 @@ returns-then-pair-level-count c =
     let len = mip_length m w h in
     let ok = mip_lawful m w h _ _ s.size.0.ranged s.size.1.ranged s.tile_size.0.ranged s.tile_size.1.ranged in
     placed (mip_levels m w h) p.0 (level_at m w h p.0 p.0) p
-    ok.distinct (mip_at m w h p.0 (omega (arith, c.level-count.ensures, c.if-pair-level-count.true))) refl c.if-pair.true
+    ok.distinct (mip_at m w h p.0 (omega (arith, c.level_count.ensures, c.if-pair-level_count.true))) refl c.if-pair.true
 
 pub returns-else-pair : goal.returns-else-pair
 returns-else-pair c =
@@ -32,6 +32,6 @@ returns-else-pair c =
     let x : i ≡ p.0 = ap (λ (v : Level). v.pair.0) k.1 ∙ a in
     let y : i ≡ p.1 = ap (λ (v : Level). v.pair.1) k.1 ∙ b in
     elim c.else-pair.branch [
-      | else-pair-via-then-pair+else-pair-level-count v ↦ omega (arith, v.level-count.ensures, v.if-pair-level-count.false, k.0)
+      | else-pair-via-then-pair+else-pair-level_count v ↦ omega (arith, v.level_count.ensures, v.if-pair-level_count.false, k.0)
       | else-pair-via-else-pair v ↦ v.if-pair.false (sym x ∙ y)
     ])

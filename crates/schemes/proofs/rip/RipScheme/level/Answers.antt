@@ -16,11 +16,11 @@ returns-then-y-down c =
     let w = s.size.0.pixels in
     let h = s.size.1.pixels in
     let i = c.args.position in
-    let r = c.level-count-across.result in
-    let n : r ≡ levels_of m w = c.level-count-across.ensures.count in
-    let low : i / r < levels_of m h = omega (arith, c.if-y-down.true, c.level-count-down.ensures.count) in
-    ap (λ v. Some (made (i % r) (i / r) v c.level-size-height.result)) c.level-size-width.ensures
-    ∙ ap (λ v. Some (made (i % r) (i / r) (side_at m w (i % r)) v)) c.level-size-height.ensures
+    let r = c.level_count-across.result in
+    let n : r ≡ levels_of m w = c.level_count-across.ensures.count in
+    let low : i / r < levels_of m h = omega (arith, c.if-y-down.true, c.level_count-down.ensures.count) in
+    ap (λ v. Some (made (i % r) (i / r) v c.level_size-height.result)) c.level_size-width.ensures
+    ∙ ap (λ v. Some (made (i % r) (i / r) (side_at m w (i % r)) v)) c.level_size-height.ensures
     ∙ ap (λ k. Some (level_at m w h (i % k) (i / k))) n
     ∙ sym (rip_by m w h i (subst (λ (k : ℕ). i / k < levels_of m h) n low))
 
@@ -31,9 +31,9 @@ returns-else-y-down c =
     let w = s.size.0.pixels in
     let h = s.size.1.pixels in
     let i = c.args.position in
-    let r = c.level-count-across.result in
-    let n : r ≡ levels_of m w = c.level-count-across.ensures.count in
-    let far : levels_of m h ≤ i / r = omega (arith, c.if-y-down.false, c.level-count-down.ensures.count) in
-    let past : levels_of m h * r ≤ i = (le-div_iff_mul-le c.level-count-across.ensures.some).0 far in
+    let r = c.level_count-across.result in
+    let n : r ≡ levels_of m w = c.level_count-across.ensures.count in
+    let far : levels_of m h ≤ i / r = omega (arith, c.if-y-down.false, c.level_count-down.ensures.count) in
+    let past : levels_of m h * r ≤ i = (le-div_iff_mul-le c.level_count-across.ensures.some).0 far in
     let same = ap (λ k. levels_of m h * k) n in
     nth_past (rip_levels m w h) i (omega (arith, rip_length m w h))

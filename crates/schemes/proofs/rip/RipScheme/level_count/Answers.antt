@@ -6,6 +6,6 @@ use Rattle.schemes.proofs.rip.RipScheme.level_count.Goals as goal
 pub returns : goal.returns
 returns c =
     let s = c.args.self.now in
-    ap (λ x. x * c.level-count-2.result) c.level-count.ensures.count
-    ∙ ap (λ x. levels_of s.rounding_mode s.size.1.pixels * x) c.level-count-2.ensures.count
+    ap (λ x. x * c.level_count-2.result) c.level_count.ensures.count
+    ∙ ap (λ x. levels_of s.rounding_mode s.size.1.pixels * x) c.level_count-2.ensures.count
     ∙ sym (rip_length s.rounding_mode s.size.0.pixels s.size.1.pixels)
