@@ -7,3 +7,7 @@ mod counting;
 mod layers;
 #[cfg(test)]
 mod pairs;
+#[cfg(test)]
+mod tiles;
+#[cfg(test)]
+mod written;

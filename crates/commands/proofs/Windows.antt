@@ -5,7 +5,7 @@ use Rattle.numbers.specs.declared.rounding.RoundingMode.{RoundingMode}
 use Rattle.numbers.specs.declared.vec2.Vec2.{Vec2}
 use Rattle.layout.specs.declared.attribute.BlockDescription.TheVariants.{ScanLines, Tiles}
 use Rattle.layout.specs.declared.attribute.LevelMode.{LevelMode}
-use Rattle.layout.specs.declared.attribute.LineOrder.{LineOrder}
+use Rattle.blocks.specs.declared.line_order.LineOrder.{LineOrder}
 use Rattle.commands.specs.Bytes.{byte_at, half_at}
 use Rattle.commands.specs.Commands.{ints_at, words_at, level_mode, rounding_mode, line_order, scan_lines, tiles, tile_window, read_command}
 use Rattle.commands.specs.declared.command.Command.{Command}

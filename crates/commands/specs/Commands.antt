@@ -8,8 +8,8 @@ use Rattle.layout.specs.declared.attribute.BlockDescription.{BlockDescription}
 use Rattle.layout.specs.declared.attribute.BlockDescription.TheVariants.{ScanLines, Tiles}
 use Rattle.layout.specs.declared.attribute.LevelMode.{LevelMode}
 use Rattle.layout.specs.declared.attribute.LevelMode.TheVariants.{Singular, MipMap, RipMap}
-use Rattle.layout.specs.declared.attribute.LineOrder.{LineOrder}
-use Rattle.layout.specs.declared.attribute.LineOrder.TheVariants.{Increasing, Decreasing, Unspecified}
+use Rattle.blocks.specs.declared.line_order.LineOrder.{LineOrder}
+use Rattle.blocks.specs.declared.line_order.LineOrder.TheVariants.{Increasing, Decreasing, Unspecified}
 use Rattle.layout.specs.declared.attribute.SampleType.{SampleType}
 use Rattle.layout.specs.declared.attribute.SampleType.TheVariants.{U32, F16, F32}
 use Rattle.commands.specs.Bytes.{byte_at, half_at, word_at, int_at, long_at}

@@ -20,7 +20,8 @@ use Rattle.schemes.specs.Lists.{mip_is, rip_is}
 use Rattle.layout.specs.Acceptance.{Laid, accepted, broken_channel, broken_rule, cut_into, good_tile, laid_out, meaning_of, mode_levels, states}
 use Rattle.layout.specs.Asked.{good_blocks, scheme_of}
 use Rattle.layout.specs.Channels.{pixel_bytes, sample_bytes}
-use Rattle.layout.specs.Windows.{axis_fits, window_fits, good_lines, good_side, Placed}
+use Rattle.schemes.specs.Windows.{axis_fits, window_fits, Placed}
+use Rattle.layout.specs.Windows.{good_lines, good_side}
 use Rattle.layout.specs.declared.attribute.BlockDescription.{BlockDescription}
 use Rattle.layout.specs.declared.attribute.BlockDescription.TheVariants.{ScanLines, Tiles}
 use Rattle.layout.specs.declared.attribute.ChannelDescription.{ChannelDescription}
@@ -91,6 +92,9 @@ good n a b = and_from _ _ (le-leb 1 n a) (le-leb n 2147483647 b)
 
 lines_good : (n : ℕ) → good_lines n ≡ true → good_side n ≡ true
 lines_good n e = grind (arith, nat_tests)
+
+pub few_lines : (n : ℕ) → good_lines n ≡ true → (1 ≤ n) × (n ≤ 256)
+few_lines n e = (grind (arith, nat_tests), grind (arith, nat_tests))
 
 blocks_good : (b : BlockDescription) (lines : ℕ) → good_lines lines ≡ true → good_tile b ≡ true → good_blocks b lines ≡ true
 blocks_good ScanLines lines l t = lines_good lines l

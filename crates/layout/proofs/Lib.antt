@@ -1,2 +1,5 @@
 pub mod Rows
 pub mod Accepting
+pub mod Taking
+pub mod Planes
+pub mod Prefixed

@@ -9,14 +9,15 @@ use Rattle.schemes.specs.Meanings.{Meaning}
 use Rattle.schemes.specs.Schemes.{in_lines, in_tiles}
 use Rattle.schemes.specs.declared.level.Level.{Level}
 use Rattle.layout.specs.Channels.{pixel_bytes}
-use Rattle.layout.specs.Windows.{window_fits, divides, good_lines, good_side}
+use Rattle.schemes.specs.Windows.{window_fits}
+use Rattle.layout.specs.Windows.{divides, good_lines, good_side}
 use Rattle.layout.specs.declared.attribute.BlockDescription.{BlockDescription}
 use Rattle.layout.specs.declared.attribute.BlockDescription.TheVariants.{ScanLines, Tiles}
 use Rattle.layout.specs.declared.attribute.ChannelDescription.{ChannelDescription}
 use Rattle.layout.specs.declared.attribute.LevelMode.{LevelMode}
 use Rattle.layout.specs.declared.attribute.LevelMode.TheVariants.{Singular, MipMap, RipMap}
-use Rattle.layout.specs.declared.attribute.LineOrder.{LineOrder}
-use Rattle.layout.specs.declared.attribute.LineOrder.TheVariants.{Increasing, Decreasing, Unspecified}
+use Rattle.blocks.specs.declared.line_order.LineOrder.{LineOrder}
+use Rattle.blocks.specs.declared.line_order.LineOrder.TheVariants.{Increasing, Decreasing, Unspecified}
 use Rattle.layout.specs.declared.description.LayerDescription.{LayerDescription}
 
 -- the levels of a w by h image in this mode

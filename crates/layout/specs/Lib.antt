@@ -3,5 +3,9 @@ pub mod Windows
 pub mod Acceptance
 pub mod Asked
 pub mod Layers
+pub mod Lines
+pub mod Pixels
+pub mod Prefixes
+pub mod Waiting
 pub mod Totals
 pub mod Worked

@@ -2,6 +2,7 @@
 ghost use Rattle.std.specs.Prelude.{◌≡◌};
 ghost use Rattle.layout.specs.Channels.{sample_bytes};
 
+pub use blocks::line_order::LineOrder;
 use numbers::rounding::RoundingMode;
 use numbers::vec2::Vec2;
 
@@ -11,14 +12,6 @@ pub enum SampleType {
     U32,
     F16,
     F32,
-}
-
-// The order in which the blocks stand in the file.
-#[derive(Clone, Copy, PartialEq, Eq, Debug)]
-pub enum LineOrder {
-    Increasing,
-    Decreasing,
-    Unspecified,
 }
 
 // Which smaller copies of the image are stored beside it.

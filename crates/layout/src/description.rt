@@ -2,13 +2,15 @@
 ghost use Rattle.std.specs.Prelude.{◌≡◌, not, ◌&&◌};
 ghost use Rattle.layout.specs.Acceptance.{broken_rule, good_tile, is_tiled, is_unspecified};
 ghost use Rattle.layout.specs.Asked.{both_sides, pixels_of_both, scheme_of, tile_scheme_of};
-ghost use Rattle.layout.specs.Windows.{good_lines, window_fits};
+ghost use Rattle.layout.specs.Windows.{good_lines};
 ghost use Rattle.numbers.specs.Refusals.{number_of};
 ghost use Rattle.numbers.specs.Wholes.{optional};
 ghost use Rattle.schemes.specs.Schemes.{any_meaning};
+ghost use Rattle.schemes.specs.Windows.{window_fits};
 
-use crate::attribute::{BlockDescription, LevelMode, LineOrder, TileDescription};
+use crate::attribute::{BlockDescription, LevelMode, TileDescription};
 use crate::window::axis_fits;
+use blocks::line_order::LineOrder;
 use numbers::refusal::Reason;
 use numbers::vec2::Vec2;
 use schemes::any_scheme::AnyScheme;

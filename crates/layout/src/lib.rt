@@ -5,5 +5,6 @@ pub mod attribute;
 pub mod channel;
 pub mod description;
 pub mod layer;
+pub mod ordered;
 mod window;
 pub mod worked;

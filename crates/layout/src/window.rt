@@ -1,6 +1,7 @@
 // The limits of a layer's window, and what divides it.
 ghost use Rattle.std.specs.Prelude.{◌≡◌, ◌<◌};
-ghost use Rattle.layout.specs.Windows.{axis_fits, divides};
+ghost use Rattle.layout.specs.Windows.{divides};
+ghost use Rattle.schemes.specs.Windows.{axis_fits};
 
 const WINDOW_LIMIT: i64 = 1073741823;
 

@@ -1,12 +1,13 @@
 // The worked layers of docs/RULES.md.
 ghost use Rattle.std.specs.Prelude.{◌≡◌, [], ◌∷◌, Some};
-ghost use Rattle.layout.specs.Worked.{WorkedLayers, chunks_of, five_by_three, thirty_three_lines};
+ghost use Rattle.layout.specs.Worked.{WorkedBlocks, WorkedLayers, chunks_of, five_by_three, thirty_three_lines};
 
 use crate::attribute::{
-    BlockDescription, ChannelDescription, LevelMode, LineOrder, SampleType, TileDescription,
+    BlockDescription, ChannelDescription, LevelMode, SampleType, TileDescription,
 };
 use crate::description::LayerDescription;
 use crate::layer::Layer;
+use blocks::line_order::LineOrder;
 use numbers::rounding::RoundingMode;
 use numbers::vec2::Vec2;
 
@@ -58,10 +59,12 @@ fn chunks(description: LayerDescription) -> Option<usize>
     }
 }
 
-// Lays the worked layers out: five modes of tiles, and lines. Its contract states what they come to.
+// Lays the worked layers out: five modes of tiles, and lines. Its contract states what they come to, with the blocks,
+// bounds and orders that docs/RULES.md names.
 pub fn worked_chunk_counts() -> [Option<usize>; 6]
     ensures counts { result ≡ Some 6 ∷ (Some 8 ∷ (Some 10 ∷ (Some 15 ∷ (Some 28 ∷ (Some 2 ∷ []))))) }
     ensures stated { WorkedLayers }
+    ensures blocks { WorkedBlocks }
 {
     [
         chunks(five_by_three(LevelMode::Singular, RoundingMode::Down)),

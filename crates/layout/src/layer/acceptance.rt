@@ -2,15 +2,17 @@
 ghost use Rattle.std.specs.Prelude.{◌≡◌};
 ghost use Rattle.layout.specs.Acceptance.{accepted, states};
 ghost use Rattle.layout.specs.Layers.{laid};
+ghost use Rattle.layout.specs.Lines.{KeepsItsLines};
 ghost use Rattle.layout.specs.Totals.{TakesItsChannels};
 ghost use Rattle.numbers.specs.Refusals.{outcome_as};
 ghost use Rattle.schemes.specs.Blocks.{chunks_in};
 ghost use Rattle.schemes.specs.Schemes.{any_meaning};
 
-use crate::attribute::{ChannelDescription, LineOrder};
+use crate::attribute::ChannelDescription;
 use crate::channel::bytes_per_pixel;
 use crate::description::LayerDescription;
 use crate::layer::Layer;
+use blocks::line_order::LineOrder;
 use numbers::refusal::{Module, Reason, Refusal};
 use numbers::vec2::Vec2;
 use schemes::any_scheme::AnyScheme;
@@ -34,6 +36,7 @@ impl Layer {
     ) -> Result<Layer, Refusal>
         ensures value { outcome_as laid result ≡ accepted description channels.now }
         ensures bytes { TakesItsChannels channels.now result }
+        ensures lines { KeepsItsLines description result }
     {
         if let Some(reason) = description.broken_rule(channels.len()) {
             return Err(Refusal {
@@ -60,6 +63,7 @@ impl Layer {
             position: description.layer_position,
             line_order: description.line_order,
             scheme,
+            lines_per_block: description.lines_per_block,
             bytes_per_pixel: bytes_per_pixel(channels),
             chunk_count,
         })

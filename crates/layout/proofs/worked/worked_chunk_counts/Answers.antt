@@ -1,4 +1,5 @@
 use Rattle.std.proofs.Common.{◌≡◌, ℕ, List, [], ◌∷◌, Option, refl, ap, ◌∙◌}
+use Rattle.blocks.specs.Numbering.{blocks_from, level_blocks}
 use Rattle.layout.specs.Worked.{chunks_of}
 use Rattle.layout.proofs.worked.worked_chunk_counts.Goals as goal
 
@@ -9,6 +10,7 @@ equal : (a b c d e f p q r s t u : Option ℕ) → a ≡ p → b ≡ q → c ≡
 equal a b c d e f p q r s t u i j k l m n = cc
 
 pub returns : goal.returns
+unfolding level_blocks blocks_from
 returns c =
     record {
       counts = equal _ _ _ _ _ _ _ _ _ _ _ _
@@ -34,5 +36,18 @@ returns c =
         mip_15_17_down = refl;
         mip_15_17_up = refl;
         rip_4_4 = refl;
+      };
+      blocks = record {
+        far_corner = refl;
+        next_level = refl;
+        rising = refl;
+        falling = refl;
+        unspecified = refl;
+        no_level = refl;
+        last_line = refl;
+        from_below = refl;
+        above_row = refl;
+        above_block = refl;
+        second_block = refl;
       };
     }

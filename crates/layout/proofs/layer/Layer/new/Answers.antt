@@ -1,11 +1,11 @@
-use Rattle.std.proofs.Common.{◌≡◌, ℕ, ◌*◌, ◌≤◌, length, Ok, sym, ap, ◌∙◌, subst, arith}
+use Rattle.std.proofs.Common.{◌≡◌, ℕ, ◌*◌, ◌≤◌, length, Ok, refl, sym, ap, ◌∙◌, subst, arith}
 use Rattle.std.proofs.lemmas.Bool.{cond-true, cond-false}
 use Rattle.schemes.specs.Blocks.{chunks_in, pixel_count}
 use Rattle.schemes.specs.Meanings.{Meaning}
 use Rattle.schemes.specs.Schemes.{any_meaning}
 use Rattle.layout.specs.Acceptance.{meaning_of, states}
-use Rattle.layout.specs.Windows.{Placed}
-use Rattle.layout.proofs.Accepting.{kept, placed, meant, never_absent, counted, over_channels, same_laid, some_bytes}
+use Rattle.schemes.specs.Windows.{Placed}
+use Rattle.layout.proofs.Accepting.{kept, placed, meant, never_absent, counted, few_lines, over_channels, same_laid, some_bytes}
 use Rattle.layout.proofs.layer.Layer.new.Goals as goal
 
 pub unreachable-requires : goal.unreachable-requires
@@ -28,6 +28,7 @@ returns-then-not-is_stated c =
       value = sym (counted d cs c.in_default.ensures c.in_default-broken_channel.ensures
           ∙ cond-false _ _ _ (ap (states d.chunk_count) (sym n) ∙ sym c.is_stated.ensures ∙ c.if-not-is_stated.true));
       bytes = tt;
+      lines = tt;
     }
 
 pub invariant_of-result : goal.invariant_of-result
@@ -39,6 +40,7 @@ invariant_of-result c =
     let some = some_bytes cs k.some in
     record {
       placed = subst (λ (x : Meaning). Placed d.layer_position x) (sym m) (placed d (length cs) k);
+      lined = few_lines d.lines_per_block k.lines;
       sampled = omega (arith, c.bytes_per_pixel.ensures);
       counted = c.compute_chunk_count-chunk_count.ensures;
     }
@@ -55,4 +57,5 @@ returns c =
           ∙ sym (counted d cs c.in_default.ensures c.in_default-broken_channel.ensures
           ∙ cond-true _ _ _ (ap (states d.chunk_count) (sym n) ∙ sym c.is_stated.ensures ∙ c.if-not-is_stated.false));
       bytes = ap (λ b. pixel_count (any_meaning c.in-Some-scheme.scheme) * b) c.bytes_per_pixel.ensures ∙ sym (over_channels (pixel_count (any_meaning c.in-Some-scheme.scheme)) cs);
+      lines = refl;
     }

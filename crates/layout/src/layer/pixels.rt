@@ -1,0 +1,81 @@
+// The pixels of a block by its tile indices and level pair.
+ghost use Rattle.std.specs.Prelude.{◌≡◌};
+ghost use Rattle.layout.specs.Layers.{laid};
+ghost use Rattle.layout.specs.Pixels.{BoundsByTile, block_pixels, plane_pixels, too_deep};
+ghost use Rattle.numbers.specs.Refusals.{outcome};
+
+use crate::layer::Layer;
+use blocks::bounds::IntegerBounds;
+use blocks::tile::TileCoordinates;
+use numbers::refusal::{Module, Reason, Refusal};
+use numbers::vec2::Vec2;
+use numbers::whole::Whole;
+use schemes::find::find_level;
+use schemes::level::Naming;
+use schemes::scheme::Scheme;
+
+const LARGEST_LEVEL_INDEX: usize = 63;
+
+const TOO_DEEP: Refusal = Refusal {
+    reason: Reason::LevelIndexTooLarge,
+    module: Module::Layers,
+    place: 0,
+};
+
+const NO_SUCH_LEVEL: Refusal = Refusal {
+    reason: Reason::NoSuchTile,
+    module: Module::Layers,
+    place: 0,
+};
+
+// Scan lines look at a level's pair as such, and have one.
+fn is_too_deep(naming: Naming, level: Vec2<usize>) -> bool
+    ensures { result ≡ too_deep naming level }
+{
+    match naming {
+        Naming::Line => false,
+        Naming::Tile => level.0 > LARGEST_LEVEL_INDEX || level.1 > LARGEST_LEVEL_INDEX,
+    }
+}
+
+impl Layer {
+    // Inside its level, whose corner is (0, 0).
+    pub fn get_absolute_block_pixel_coordinates(
+        &self,
+        tile: TileCoordinates,
+    ) -> Result<IntegerBounds, Refusal>
+        ensures value { outcome result ≡ block_pixels (laid self.now).scheme tile }
+        ensures block { BoundsByTile (laid self.now).scheme tile result }
+    {
+        self.level_pixels(tile)
+    }
+
+    fn level_pixels(&self, tile: TileCoordinates) -> Result<IntegerBounds, Refusal>
+        ensures { outcome result ≡ block_pixels (laid self.now).scheme tile }
+    {
+        if is_too_deep(self.scheme.naming(), tile.level_index) {
+            return Err(TOO_DEEP);
+        }
+        let Some(level) = find_level(&self.scheme, tile.level_index) else {
+            return Err(NO_SUCH_LEVEL);
+        };
+        tile.to_data_indices(self.scheme.block_size(), Vec2(level.width, level.height))
+    }
+
+    // In the plane of the layer, where positions may be negative.
+    pub fn get_block_data_window_pixel_coordinates(
+        &self,
+        tile: TileCoordinates,
+    ) -> Result<IntegerBounds, Refusal>
+        ensures { outcome result ≡ plane_pixels (laid self.now) tile }
+    {
+        let data = self.level_pixels(tile)?;
+        match data.position.sum(self.position) {
+            Some(position) => Ok(IntegerBounds {
+                position,
+                size: data.size,
+            }),
+            None => unreachable(),
+        }
+    }
+}
