@@ -1,10 +1,10 @@
 #!/usr/bin/env python3
 """Measures questions about blocks with the program of crates/block_table, in nanoseconds for each block or call.
 
-    rt check block_table && tools/bench.py target/bin/block_table
+    (cd crates/block_table && rt run >/dev/null) && tools/bench.py crates/block_table/out/block_table
 
 A question is asked so often that a run takes about a second; the time of a run that asks nothing is taken off it, and the
-least of seven runs is told. docs/SPEED.md has figures beside those of the Rust crate on the same layers.
+least of seven runs is told.
 """
 import subprocess
 import sys

@@ -3,10 +3,11 @@
 
 usage: python3 tools/snake_names.py [--dry] [TOP]
 
-A definition is what stands at the head of a line of specs/ or of a file of lemmas in proofs/, a field of a record there, or what
-`where` and `let` bind in such files, and the name that an import gives. Names that the library declares, and names that the check makes (`returns-in_err`,
-`loop-i-preserved`, steps behind `c.`), keep their dashes. Functions, strings, inputs and outputs are not touched: of a .rt file
-only clauses, ghost items and `ghost use` lines are read. A second run changes nothing.
+A definition is what stands at the head of a line of specs/ or of a file of lemmas in proofs/, a parameter there, a field of a
+record, what `where` and `let` bind in such files, and the name that an import gives. Names that the library declares, and
+names that the check makes (`returns-in_err`, `loop-i-preserved`, steps behind `c.`), keep their dashes. Functions, strings,
+inputs and outputs are not touched: of a .rt file only clauses, ghost items and `ghost use` lines are read. A second run
+changes nothing.
 """
 
 import collections
@@ -19,6 +20,7 @@ NAME = re.compile(r"(?<![\w'◌-])" + WORD + r"(?![\w'◌-])")
 HEAD = re.compile(r"^( *)(?:(?:abbrev|unfoldable|pub) )*(?:(?:record|data) )?(" + WORD + r") *(?=:|\(|\{)", re.M)
 LET = re.compile(r"\blet (" + WORD + r")(?: *:| *=)")
 ALIAS = re.compile(r"^(?:ghost )?use [^\n]*", re.M)
+CASE = re.compile(r"^" + WORD + r"((?: [^=\n]*)?) =(?: |$)", re.M)
 LIBRARY = re.compile(r"^(?:ghost )?use ((?:Rattle\.std|native|lib|Prim|mir|mathlib)[\w.'-]*)\.\{([^}]*)\}", re.M)
 
 # These would fall together with a name that stands beside them.
@@ -66,6 +68,8 @@ def own_names(files):
             own.add(name)
         if kind != "answers":
             own |= set(LET.findall(text))
+            for parameters in CASE.findall(text):
+                own |= set(NAME.findall(parameters))
     return {n for n in own if "-" in n}, {n for n in fields if "-" in n}, library
 
 
@@ -76,7 +80,7 @@ def spelled(crate, name):
 def turned(text, crate, kind, own, fields, library):
     taken = set()
     for _, names in LIBRARY.findall(text):
-        taken |= {n.split(" as ")[-1].strip() for n in names.split(",")}
+        taken |= {n.strip() for n in names.split(",") if " as " not in n}
     odd = {n for (c, n) in OTHERWISE if c in ("", crate)}
 
     def one(m):

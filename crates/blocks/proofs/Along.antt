@@ -1,5 +1,5 @@
 -- Blocks along one side: each pixel lies in one of them, and each begins inside the side.
-use Rattle.std.proofs.Common.{◌≡◌, ℕ, zero, suc, ◌+◌, ◌-◌, ◌*◌, ◌/◌, ◌%◌, ◌<◌, ◌≤◌, min, true, ◌&&◌, ltb, leb, ◌⊎◌, sym, ap, ◌∙◌, inl, inr, zero-le, mul-le-mul_right, mod-lt, mul_comm, div-lt_iff_lt-mul, add-mul, one-mul, div-add-mod', div-mul-le_self, arith}
+use Rattle.std.proofs.Common.{◌≡◌, ℕ, zero, suc, ◌+◌, ◌*◌, ◌/◌, ◌%◌, ◌<◌, ◌≤◌, min, true, ◌&&◌, ltb, leb, sym, ap, ◌∙◌, inl, inr, zero-le, mul-le-mul_right, mod-lt, mul_comm, div-lt_iff_lt-mul, add-mul, one-mul, div-add-mod', div-mul-le_self, arith}
 use native.Mathlib.Nat.{div-eq_of_lt-le}
 use Rattle.std.proofs.lemmas.Bool.{cases_eq, and_from, and_parts, le-leb, leb-true, lt-ltb, ltb-true}
 use Rattle.numbers.specs.Counts.{blocks_along, clipped}

@@ -3,11 +3,9 @@ use Rattle.std.proofs.Common.{◌≡◌, ℕ, ◌+◌, ◌*◌, ◌/◌, ◌<◌
 use Rattle.std.proofs.lemmas.Bool.{and_from, and_parts, eq-eqb, eqb-true, ltb-true}
 use Rattle.numbers.specs.Counts.{clipped}
 use Rattle.std.specs.List.{slice_get}
-use Rattle.schemes.specs.Meanings.{Meaning, Lawful, block_size}
-use Rattle.schemes.specs.declared.level.Level.{Level}
+use Rattle.schemes.specs.Meanings.{Meaning, Lawful}
 use Rattle.blocks.specs.Numbering.{all_blocks, block_at, number_of, IsBlock}
 use Rattle.blocks.specs.Pixels.{lies_over, BoundsCut, PixelsOnce}
-use Rattle.blocks.specs.declared.block.Block.{Block}
 use Rattle.blocks.proofs.Along.{counted, inside, only}
 use Rattle.blocks.proofs.Clipping.{corner_in}
 use Rattle.blocks.proofs.Counts.{count_one}

@@ -1,5 +1,5 @@
 -- What is known of a level that was cut, and that counts of its blocks fit.
-use Rattle.std.proofs.Common.{◌≡◌, ℕ, ◌*◌, ◌^◌, ◌<◌, ◌≤◌, Some, None, Option, sym, refl, ap, ◌∙◌, subst, arith}
+use Rattle.std.proofs.Common.{◌≡◌, ℕ, ◌*◌, ◌^◌, ◌<◌, Some, None, Option, refl, ap, ◌∙◌, subst, arith}
 use Rattle.std.specs.List.{slice_get}
 use Rattle.numbers.specs.Wholes.{optional}
 use Rattle.numbers.specs.declared.vec2.Vec2.{Vec2}

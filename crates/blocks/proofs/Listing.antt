@@ -1,5 +1,5 @@
 -- The list of blocks by levels: how long its parts are, and what stands where.
-use Rattle.std.proofs.Common.{◌≡◌, ℕ, zero, suc, ◌+◌, ◌-◌, ◌*◌, ◌/◌, ◌%◌, ◌<◌, ◌≤◌, ◌⊎◌, List, [], ◌∷◌, ◌++◌, map, reverse, length, get_or, take, drop, Some, None, sum_by, Option, sym, refl, ap, ◌∙◌, subst, inl, inr, add-zero, mod-lt, mul_comm, mul-zero, div-add-mod', zero-add, arith}
+use Rattle.std.proofs.Common.{◌≡◌, ℕ, zero, suc, ◌+◌, ◌-◌, ◌*◌, ◌/◌, ◌%◌, ◌<◌, ◌≤◌, List, [], ◌∷◌, length, get_or, take, drop, Some, sum_by, sym, refl, ap, ◌∙◌, subst, inl, inr, add-zero, mod-lt, mul_comm, mul-zero, div-add-mod', zero-add, arith}
 use Rattle.std.specs.List.{range_with_len, slice_get}
 use Rattle.std.proofs.lemmas.Nat.{div_below}
 use Rattle.std.proofs.lemmas.List.FromFn.{length-range_with_len, get_or-range_with_len}
@@ -10,10 +10,9 @@ use Rattle.numbers.specs.declared.vec2.Vec2.{Vec2}
 use Rattle.schemes.specs.Blocks.{blocks_in}
 use Rattle.schemes.specs.declared.level.Level.{Level}
 use Rattle.schemes.specs.Counting.{nth_some}
-use Rattle.schemes.specs.Rows.{nth_left, nth_right, grid_at, grid_length}
+use Rattle.schemes.specs.Rows.{nth_left, nth_right, listed_rows_at, listed_rows_length}
 use Rattle.blocks.specs.Numbering.{across, down, block_at, rows, level_blocks, blocks_from}
 use Rattle.blocks.specs.Orders.{turned}
-use Rattle.blocks.specs.declared.block.Block.{Block}
 use Rattle.blocks.specs.declared.line_order.LineOrder.{LineOrder}
 use Rattle.blocks.specs.declared.line_order.LineOrder.TheVariants.{Increasing, Decreasing, Unspecified}
 
@@ -50,7 +49,7 @@ factor n d (suc a) h = omega arith
 level_length : (o : LineOrder) (size : Vec2 ℕ) (p : ℕ) (l : Level) → length (level_blocks o size p l) ≡ blocks_in size l
 unfolding level_blocks
 level_length o size p l =
-    grid_length (λ column row. block_at p l row column) (across size l) (rows o (down size l))
+    listed_rows_length (λ column row. block_at p l row column) (across size l) (rows o (down size l))
     ∙ ap (λ n. n * across size l) (rows_length o (down size l))
     ∙ mul_comm (down size l) (across size l)
 
@@ -58,7 +57,7 @@ level_length o size p l =
 level_at : (o : LineOrder) (size : Vec2 ℕ) (p : ℕ) (l : Level) (r c : ℕ) → r < down size l → c < across size l → slice_get (level_blocks o size p l) (r * across size l + c) ≡ Some (block_at p l (turned o (down size l) r) c)
 unfolding level_blocks
 level_at o size p l r c hr hc =
-    grid_at (λ column row. block_at p l row column) (across size l) (rows o (down size l)) r c hc (subst (λ n. r < n) (sym (rows_length o (down size l))) hr)
+    listed_rows_at (λ column row. block_at p l row column) (across size l) (rows o (down size l)) r c hc (subst (λ n. r < n) (sym (rows_length o (down size l))) hr)
     ∙ ap (λ row. Some (block_at p l row c)) (rows_at o (down size l) r hr)
 
 pub blocks_length : (o : LineOrder) (size : Vec2 ℕ) (p : ℕ) (ls : List Level) → length (blocks_from o size p ls) ≡ sum_by (blocks_in size) ls

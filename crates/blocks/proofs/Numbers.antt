@@ -1,9 +1,8 @@
 -- Each block stands at its number, and each number below the chunk count has a block.
-use Rattle.std.proofs.Common.{◌≡◌, ℕ, ◌+◌, ◌*◌, ◌/◌, ◌%◌, ◌^◌, ◌<◌, ◌≤◌, ◌⊎◌, List, length, take, Some, None, sum_by, Option, sym, refl, ap, ◌∙◌, subst, inl, inr, zero-add, arith}
+use Rattle.std.proofs.Common.{◌≡◌, ℕ, ◌+◌, ◌*◌, ◌/◌, ◌%◌, ◌^◌, ◌<◌, length, Some, sym, ap, ◌∙◌, subst, zero-add, arith}
 use Rattle.std.specs.List.{slice_get}
 use Rattle.schemes.specs.Blocks.{blocks_in, chunks_in}
 use Rattle.schemes.specs.Meanings.{Meaning, Lawful, area, block_size}
-use Rattle.schemes.specs.declared.level.Level.{Level}
 use Rattle.schemes.specs.Counting.{nth_some, chunks_le, sumBy_mono}
 use Rattle.blocks.specs.Numbering.{across, down, block_at, all_blocks, blocks_by, blocks_before, number_of, IsBlock, Numbered}
 use Rattle.blocks.specs.Orders.{turned}
@@ -12,7 +11,7 @@ use Rattle.blocks.specs.declared.line_order.LineOrder.{LineOrder}
 use Rattle.blocks.specs.declared.line_order.LineOrder.TheVariants.{Increasing}
 use Rattle.blocks.specs.declared.cut.Cut.{Cut}
 use Rattle.blocks.proofs.Cutting.{IsCut}
-use Rattle.blocks.proofs.Listing.{blocks_length, level_on, split_at, Split, split}
+use Rattle.blocks.proofs.Listing.{blocks_length, level_on, split_at, split}
 
 -- the block whose row is counted in the line order
 abbrev pub turn : LineOrder → Meaning → Block → Block

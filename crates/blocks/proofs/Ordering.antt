@@ -1,12 +1,11 @@
 -- Line order: what stands where, and that each block stands in it once.
-use Rattle.std.proofs.Common.{◌≡◌, ℕ, ◌+◌, ◌-◌, ◌*◌, ◌^◌, ◌<◌, ◌≤◌, eqb, List, map, length, Some, None, Ok, sym, refl, ap, ◌∙◌, subst, arith}
+use Rattle.std.proofs.Common.{◌≡◌, ℕ, ◌+◌, ◌-◌, ◌*◌, ◌^◌, ◌<◌, ◌≤◌, eqb, length, Some, None, Ok, sym, refl, ap, ◌∙◌, subst, arith}
 use Rattle.std.proofs.lemmas.List.{length-map}
 use Rattle.std.proofs.lemmas.Bool.{eq-eqb, eqb-true}
 use Rattle.std.specs.List.{slice_get}
 use Rattle.numbers.specs.Wholes.{optional}
 use Rattle.schemes.specs.Blocks.{chunks_in}
 use Rattle.schemes.specs.Meanings.{Meaning, Lawful, block_size}
-use Rattle.schemes.specs.declared.level.Level.{Level}
 use Rattle.schemes.specs.Counting.{nth_none, nth_past, nth_some}
 use Rattle.blocks.specs.Numbering.{across, down, all_blocks, block_at, blocks_by, number_of, of_block, IsBlock}
 use Rattle.blocks.specs.Bounds.{bounds_of, indices_of, tile_of}

@@ -4,7 +4,6 @@ use Rattle.numbers.specs.Wholes.{optional}
 use Rattle.numbers.specs.declared.rounding.RoundingMode.{RoundingMode}
 use Rattle.numbers.specs.declared.rounding.RoundingMode.TheVariants.{Down, Up}
 use Rattle.numbers.specs.declared.vec2.Vec2.{Vec2}
-use Rattle.layout.specs.declared.attribute.BlockDescription.{BlockDescription}
 use Rattle.layout.specs.declared.attribute.BlockDescription.TheVariants.{ScanLines, Tiles}
 use Rattle.layout.specs.declared.attribute.LevelMode.{LevelMode}
 use Rattle.layout.specs.declared.attribute.LevelMode.TheVariants.{Singular, MipMap, RipMap}

@@ -1,16 +1,13 @@
 -- What holds of a description that breaks no rule.
-use Rattle.std.proofs.Common.{◌≡◌, ℕ, zero, suc, ◌+◌, ◌*◌, ◌<◌, ◌≤◌, Bool, true, false, cond, not, ◌&&◌, ◌||◌, eqb, leb, ◌⊎◌, List, [], ◌∷◌, length, ℤ, pos, negsuc, ◌+ℤ◌, Some, None, Ok, Err, sum_by, Option, Result, sym, refl, ap, ◌∙◌, subst, inl, inr, mul-zero, mul-add, arith}
-use lib.Signed.{lt_z}
+use Rattle.std.proofs.Common.{◌≡◌, ℕ, zero, suc, ◌+◌, ◌*◌, ◌≤◌, Bool, true, false, cond, not, eqb, leb, List, [], ◌∷◌, length, ℤ, Some, None, Ok, Err, sum_by, Option, Result, sym, refl, ap, ◌∙◌, subst, mul-zero, mul-add, arith}
 use Rattle.std.proofs.lemmas.Int.{ints}
 use Rattle.std.proofs.lemmas.List.Sums.{sum_by-cons}
-use Rattle.std.proofs.lemmas.Bool.{and_from, and_parts, or_parts, or_cases, not-false, not-true, le-leb, leb-true, eqb-true, eqb-false, cond-true}
+use Rattle.std.proofs.lemmas.Bool.{and_from, and_parts, or_parts, not-false, le-leb, leb-true, eqb-false, cond-true}
 use Rattle.std.proofs.lemmas.Bool.Decides.{nat_tests}
-use Rattle.std.specs.List.{slice_get}
 use Rattle.numbers.specs.Refusals.{Told, refused}
 use Rattle.numbers.specs.declared.rounding.RoundingMode.{RoundingMode}
-use Rattle.numbers.specs.declared.vec2.Vec2.{Vec2}
 use Rattle.schemes.specs.Blocks.{chunks_in}
-use Rattle.schemes.specs.Levels.{one_level, mip_levels, rip_levels}
+use Rattle.schemes.specs.Levels.{one_level}
 use Rattle.schemes.specs.Meanings.{Meaning, EachLevel}
 use Rattle.schemes.specs.Schemes.{any_meaning}
 use Rattle.schemes.specs.declared.any_scheme.AnyScheme.{AnyScheme}

@@ -1,11 +1,11 @@
 -- Bounds by tile indices: a block's own lead to its bounds, and at a layer's position they stay in range.
-use Rattle.std.proofs.Common.{◌≡◌, ℕ, ◌*◌, ◌<◌, ◌≤◌, Bool, true, false, cond, ◌&&◌, ◌||◌, leb, ◌⊎◌, ℤ, pos, negsuc, ◌+ℤ◌, Some, None, Ok, Err, Option, Result, sym, refl, ap, ◌∙◌, subst, inl, inr, arith}
+use Rattle.std.proofs.Common.{◌≡◌, ℕ, ◌<◌, ◌≤◌, true, false, ℤ, pos, negsuc, ◌+ℤ◌, Some, None, Ok, Err, Result, sym, refl, ap, ◌∙◌, inl, inr, arith}
 use Rattle.std.proofs.lemmas.Int.{ints}
 use Rattle.std.proofs.lemmas.Bool.{and_parts, cases_Bool, cond-false, cond-true, ltb-true}
 use Rattle.std.proofs.lemmas.Bool.Decides.{nat_tests}
 use Rattle.std.specs.List.{slice_get}
 use Rattle.numbers.specs.Pairs.{both}
-use Rattle.numbers.specs.Refusals.{Told, refused}
+use Rattle.numbers.specs.Refusals.{Told}
 use Rattle.numbers.specs.Wholes.{within}
 use Rattle.numbers.specs.declared.vec2.Vec2.{Vec2}
 use Rattle.schemes.specs.Finding.{level_at_place, level_with}

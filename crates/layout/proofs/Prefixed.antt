@@ -1,9 +1,8 @@
 -- At a layer's position the fields of a prefix hold the coordinates of each block.
-use Rattle.std.proofs.Common.{◌≡◌, ℕ, true, cond, ◌⊎◌, List, ℤ, Some, None, Option, sym, refl, ap, ◌∙◌, inl, inr}
+use Rattle.std.proofs.Common.{◌≡◌, ℕ, true, List, Some, None, Option, sym, refl, ap, ◌∙◌, inl, inr}
 use Rattle.std.proofs.lemmas.Bool.{cond-true}
 use Rattle.std.specs.List.{slice_get}
 use Rattle.numbers.specs.Wholes.{optional}
-use Rattle.numbers.specs.declared.vec2.Vec2.{Vec2}
 use Rattle.schemes.specs.Meanings.{Lawful}
 use Rattle.schemes.specs.Windows.{Placed}
 use Rattle.blocks.specs.Numbering.{all_blocks}

@@ -1,9 +1,9 @@
 -- A stretch of a list, taken from either end.
-use Rattle.std.proofs.Common.{◌≡◌, ℕ, zero, suc, ◌+◌, ◌-◌, ◌<◌, ◌≤◌, List, [], ◌∷◌, length, take, drop, Some, None, Option, sym, refl, ap, ◌∙◌, subst, add-zero, zero-add, arith, length-drop, take_all, drop-drop}
+use Rattle.std.proofs.Common.{◌≡◌, ℕ, zero, suc, ◌+◌, ◌-◌, ◌<◌, ◌≤◌, List, [], ◌∷◌, length, take, drop, sym, refl, ap, ◌∙◌, add-zero, zero-add, arith, length-drop, take_all, drop-drop}
 use Rattle.std.proofs.lemmas.List.{drop-take, length-map, length-take-le, take-take}
 use Rattle.std.specs.List.{slice_get}
 use Rattle.schemes.specs.Blocks.{chunks_in}
-use Rattle.schemes.specs.Meanings.{Meaning, block_size}
+use Rattle.schemes.specs.Meanings.{Meaning}
 use Rattle.blocks.specs.Numbering.{blocks_by}
 use Rattle.blocks.specs.Orders.{ordered_blocks}
 use Rattle.blocks.specs.declared.line_order.LineOrder.{LineOrder}

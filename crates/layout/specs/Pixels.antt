@@ -1,5 +1,5 @@
 -- The pixels of a layer's block by its tile indices and level pair.
-use Rattle.std.specs.Prelude.{◌≡◌, ℕ, Bool, true, false, cond, ◌&&◌, ◌||◌, ℤ, ◌+ℤ◌, Some, None, Ok, Err, Option, Result, nat_le}
+use Rattle.std.specs.Prelude.{◌≡◌, ℕ, Bool, false, cond, ◌||◌, ℤ, ◌+ℤ◌, Some, None, Ok, Err, Option, Result, nat_le}
 use Rattle.std.specs.List.{slice_get}
 use Rattle.numbers.specs.Refusals.{Told, outcome, refused}
 use Rattle.numbers.specs.declared.refusal.Refusal.{Refusal}

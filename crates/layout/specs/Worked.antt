@@ -54,7 +54,7 @@ five_by_three mode rounding = record { layer_position = record { 0 = pos 0; 1 = 
 
 -- scan lines at position 0
 abbrev pub lines : ℕ → ℕ → ℕ → LayerDescription
-lines w h per-block = record { layer_position = record { 0 = pos 0; 1 = pos 0 }; layer_size = record { 0 = w; 1 = h }; blocks = ScanLines; lines_per_block = per-block; line_order = Increasing; deep = false; chunk_count = None }
+lines w h per_block = record { layer_position = record { 0 = pos 0; 1 = pos 0 }; layer_size = record { 0 = w; 1 = h }; blocks = ScanLines; lines_per_block = per_block; line_order = Increasing; deep = false; chunk_count = None }
 
 abbrev pub thirty_three_lines : LayerDescription
 thirty_three_lines = lines 1 33 32

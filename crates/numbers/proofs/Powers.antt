@@ -1,5 +1,5 @@
 -- Logarithms as the first power that covers a number, and quotients as the only numbers that meet their inequalities.
-use Rattle.std.proofs.Common.{◌≡◌, ℕ, zero, suc, ◌+◌, ◌-◌, ◌*◌, ◌/◌, ◌%◌, ◌^◌, ◌<◌, ◌≤◌, min, Bool, true, false, ltb, leb, ◌⊎◌, sym, refl, ap, ◌∙◌, subst, inl, inr, zero-le, add-zero, mul-le-mul_right, mod-lt, add-mul, one-mul, pow-suc, div-add-mod', div-mul-le_self, add-one, arith, pow_mono}
+use Rattle.std.proofs.Common.{◌≡◌, ℕ, zero, suc, ◌+◌, ◌-◌, ◌*◌, ◌/◌, ◌%◌, ◌^◌, ◌<◌, ◌≤◌, min, Bool, true, false, sym, ap, ◌∙◌, subst, inl, inr, zero-le, add-zero, mul-le-mul_right, mod-lt, add-mul, one-mul, pow-suc, div-add-mod', div-mul-le_self, add-one, arith, pow_mono}
 use native.Mathlib.Nat.{div-eq_of_lt-le}
 use Rattle.std.proofs.lemmas.Bool.{cases_Bool, ltb-true, ltb-false, leb-true, lt-ltb, le-ltb, le-leb, lt-leb, both_ways, cases_lt}
 use Rattle.numbers.specs.Rounding.{ceiling, rounded, Rounded}

@@ -1,5 +1,5 @@
 -- Blocks behind coordinates and behind numbers.
-use Rattle.std.proofs.Common.{◌≡◌, ℕ, ◌<◌, true, false, cond, ◌&&◌, ltb, ◌⊎◌, ℤ, Some, None, Ok, Err, Option, Result, sym, refl, ap, ◌∙◌, subst, inl, inr, arith}
+use Rattle.std.proofs.Common.{◌≡◌, ℕ, ◌&&◌, ltb, ◌⊎◌, ℤ, Some, None, Ok, Option, sym, refl, ap, ◌∙◌, inl, inr, arith}
 use Rattle.std.proofs.lemmas.Bool.{and_from, and_parts, cases_Bool, cond-false, cond-true, lt-ltb, ltb-true}
 use Rattle.std.specs.List.{slice_get}
 use Rattle.numbers.specs.Wholes.{optional}
@@ -12,7 +12,7 @@ use Rattle.blocks.specs.Numbering.{across, all_blocks, block_at, down, number_at
 use Rattle.blocks.specs.declared.block.Block.{Block}
 use Rattle.blocks.proofs.Counts.{nth_map, some_cases}
 use Rattle.blocks.proofs.Numbers.{numbered}
-use Rattle.prefixes.specs.Coordinates.{all_coordinates, coordinates_of}
+use Rattle.prefixes.specs.Coordinates.{coordinates_of}
 use Rattle.prefixes.specs.Laws.{HasCoordinates}
 use Rattle.prefixes.specs.Searching.{answer}
 use Rattle.prefixes.specs.declared.coordinates.BlockCoordinates.{BlockCoordinates}

@@ -1,5 +1,5 @@
 -- The lookups find the block that has the coordinates, and nothing where none has.
-use Rattle.std.proofs.Common.{◌≡◌, ℕ, ◌+◌, ◌*◌, ◌/◌, ◌%◌, ◌<◌, ◌≤◌, Bool, true, false, cond, ◌&&◌, eqb, ◌⊎◌, ℤ, pos, negsuc, ◌+ℤ◌, ◌-ℤ◌, Some, None, Ok, Err, Option, Result, sym, refl, ap, ◌∙◌, subst, inl, inr, mul_comm, div-add-mod', mul-div_cancel, arith}
+use Rattle.std.proofs.Common.{◌≡◌, ℕ, ◌*◌, ◌/◌, ◌%◌, ◌<◌, true, eqb, ℤ, pos, negsuc, ◌+ℤ◌, ◌-ℤ◌, Some, None, Ok, Err, Option, Result, sym, refl, ap, ◌∙◌, inl, inr, mul_comm, div-add-mod', mul-div_cancel, arith}
 use native.Mathlib.Nat.{div_self, mod_self, mul-mod_left}
 use Rattle.std.proofs.lemmas.Int.{ints}
 use Rattle.std.proofs.lemmas.Bool.{and_from, and_parts, cases_Bool, cond-false, cond-true, eq-eqb, eqb-true}
@@ -8,10 +8,9 @@ use Rattle.std.specs.List.{slice_get}
 use Rattle.numbers.specs.Counts.{blocks_along}
 use Rattle.numbers.specs.Refusals.{Told, refused}
 use Rattle.numbers.specs.declared.vec2.Vec2.{Vec2}
-use Rattle.schemes.specs.Meanings.{Meaning, Lawful, block_size, position_of}
+use Rattle.schemes.specs.Meanings.{Meaning, Lawful, position_of}
 use Rattle.schemes.specs.Windows.{Placed, axis_fits}
 use Rattle.schemes.specs.declared.level.Level.{Level}
-use Rattle.schemes.specs.declared.level.Naming.{Naming}
 use Rattle.schemes.specs.declared.level.Naming.TheVariants as by
 use Rattle.schemes.specs.Counting.{nth_some}
 use Rattle.schemes.proofs.Placed.{placed, there}
@@ -23,12 +22,12 @@ use Rattle.blocks.proofs.Covering.{bounds_cut, pixels_once}
 use Rattle.blocks.proofs.Numbers.{numbered}
 use Rattle.prefixes.specs.Coordinates.{all_coordinates, coordinates_by, coordinates_of, fits_fields, signed, small}
 use Rattle.prefixes.specs.Laws.{BlocksKnown, HasCoordinates}
-use Rattle.prefixes.specs.Lookup.{first_from, looked_up, same_coordinates}
+use Rattle.prefixes.specs.Lookup.{looked_up, same_coordinates}
 use Rattle.prefixes.specs.Searching.{and_then, answer, line_search, natural, naturals, row_of, search_for, tile_search, under_lines, under_tiles}
 use Rattle.prefixes.specs.declared.coordinates.BlockCoordinates.{BlockCoordinates}
 use Rattle.prefixes.specs.declared.coordinates.BlockCoordinates.TheVariants.{Line, Tile}
 use Rattle.prefixes.proofs.Fitting.{small_block, small_signed}
-use Rattle.prefixes.proofs.Behind.{Named, Stands, has_coordinates, named, naming_cases, never_some, number_there, stands}
+use Rattle.prefixes.proofs.Behind.{has_coordinates, named, naming_cases, never_some, number_there, stands}
 use Rattle.prefixes.proofs.Same.{first_at, first_none, same, self_same}
 
 -- the coordinates under a naming that is known

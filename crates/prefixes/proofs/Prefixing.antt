@@ -1,5 +1,5 @@
 -- Writing the prefix of the block with a number.
-use Rattle.std.proofs.Common.{◌≡◌, ℕ, ◌<◌, ◌≤◌, true, false, cond, leb, ◌⊎◌, List, length, ℤ, Some, None, Ok, Err, Option, Result, sym, refl, ap, ◌∙◌, inl, inr, arith}
+use Rattle.std.proofs.Common.{◌≡◌, ℕ, ◌<◌, ◌≤◌, true, false, List, length, ℤ, Some, None, Ok, Err, Result, sym, refl, ap, ◌∙◌, inl, inr, arith}
 use Rattle.std.proofs.lemmas.Bool.{cases_Bool, cond-false, cond-true, le-leb, lt-leb}
 use Rattle.std.specs.List.{slice_get}
 use Rattle.numbers.specs.Refusals.{Told, outcome, refused}
@@ -10,7 +10,7 @@ use Rattle.schemes.specs.declared.level.Naming.{Naming}
 use Rattle.schemes.specs.declared.level.Naming.TheVariants as by
 use Rattle.blocks.specs.Numbering.{all_blocks}
 use Rattle.blocks.specs.declared.block.Block.{Block}
-use Rattle.prefixes.specs.Bytes.{ComesBack, ComesBackFor, buffer_for, buffer_with, naming_of, prefix_of, prefix_read, prefix_size, written, written_for}
+use Rattle.prefixes.specs.Bytes.{ComesBack, ComesBackFor, buffer_for, buffer_with, naming_of, prefix_read, prefix_size, written, written_for}
 use Rattle.prefixes.specs.Coordinates.{coordinates_by, coordinates_of, fits_fields, telling}
 use Rattle.prefixes.specs.declared.coordinates.BlockCoordinates.{BlockCoordinates}
 use Rattle.prefixes.specs.declared.prefix.Prefix.{Prefix}

@@ -1,11 +1,11 @@
 -- Reading a prefix: its fields one after another, and what was written again.
-use Rattle.std.proofs.Common.{◌≡◌, ℕ, ◌+◌, ◌<◌, ◌≤◌, true, false, cond, leb, List, ◌++◌, length, drop, ℤ, pos, negsuc, Some, None, Option, sym, refl, ap, ◌∙◌, arith, get_or-drop}
+use Rattle.std.proofs.Common.{◌≡◌, ℕ, true, cond, leb, List, length, ℤ, Some, None, Option, ap, arith, get_or-drop}
 use Rattle.std.proofs.lemmas.Bool.Decides.{nat_tests}
 use Rattle.numbers.specs.declared.vec2.Vec2.{Vec2}
 use Rattle.fields.specs.Bytes.{int_at, ints_at, taken}
 use Rattle.fields.proofs.Taken.{both, cut, took}
 use Rattle.prefixes.specs.declared.coordinates.BlockCoordinates.{BlockCoordinates}
-use Rattle.prefixes.specs.declared.coordinates.BlockCoordinates.TheVariants.{Line, Tile}
+use Rattle.prefixes.specs.declared.coordinates.BlockCoordinates.TheVariants.{Tile}
 
 -- sixteen bytes, but not four more
 pub tile_cut : {A B C : Type 0} (v w : A) (u : B) (o : Option C) (bytes rest : List ℕ) → ◌≡◌ {A = Option (A × List ℕ)} (Some (v, rest)) (taken 16 w bytes) → ◌≡◌ {A = Option (B × List ℕ)} None (taken 4 u rest) → None ≡ cond (leb 20 (length bytes)) o None

@@ -1,11 +1,11 @@
 -- Writing a prefix: what is answered, what the buffer then holds, and that reading gives it back.
-use Rattle.std.proofs.Common.{◌≡◌, ℕ, ◌<◌, ◌≤◌, true, false, cond, leb, List, [], ◌∷◌, ◌++◌, length, drop, ℤ, pos, negsuc, Some, None, Ok, Err, Option, Result, sym, refl, ap, ◌∙◌, subst, arith, w32, SFits}
-use Rattle.std.proofs.lemmas.Bool.{cond-true, cond-false, le-leb}
+use Rattle.std.proofs.Common.{◌≡◌, ℕ, ◌≤◌, true, cond, leb, List, [], ◌∷◌, ◌++◌, length, drop, ℤ, pos, Some, None, Ok, Err, Option, Result, sym, ap, ◌∙◌, arith, w32, SFits}
+use Rattle.std.proofs.lemmas.Bool.{cond-true, le-leb}
 use Rattle.std.specs.Option.{ok_or}
 use Rattle.numbers.specs.Refusals.{Told, outcome, refused}
 use Rattle.numbers.specs.declared.refusal.Refusal.{Refusal}
 use Rattle.numbers.specs.declared.vec2.Vec2.{Vec2}
-use Rattle.fields.specs.Bytes.{int_at, ints_at, ints_bytes, over}
+use Rattle.fields.specs.Bytes.{int_at, ints_bytes, over}
 use Rattle.fields.proofs.Back.{int_back}
 use Rattle.schemes.specs.declared.level.Naming.TheVariants as by
 use Rattle.prefixes.specs.Bytes.{ComesBack, buffer_with, naming_of, prefix_fields, prefix_read, size_of, written, with_length}

@@ -10,7 +10,7 @@ use Rattle.schemes.specs.declared.level.Naming.{Naming}
 use Rattle.schemes.specs.declared.level.Naming.TheVariants as by
 use Rattle.blocks.specs.Numbering.{all_blocks}
 use Rattle.blocks.specs.declared.block.Block.{Block}
-use Rattle.prefixes.specs.Coordinates.{coordinates_of, fits_fields, telling}
+use Rattle.prefixes.specs.Coordinates.{coordinates_of, fits_fields}
 use Rattle.prefixes.specs.declared.coordinates.BlockCoordinates.{BlockCoordinates}
 use Rattle.prefixes.specs.declared.coordinates.BlockCoordinates.TheVariants.{Line, Tile}
 use Rattle.prefixes.specs.declared.prefix.Prefix.{Prefix}
@@ -58,18 +58,18 @@ ComesBack p (Err why) buffer = Unit {0}
 
 -- the prefix of a block
 abbrev pub prefix_of : Meaning → Vec2 ℤ → Block → ℕ → Prefix
-prefix_of m position b data-length = record { coordinates = coordinates_of m position b; data_length = data-length }
+prefix_of m position b data_length = record { coordinates = coordinates_of m position b; data_length = data_length }
 
 -- writing the prefix of the block with a number: 16 where a field does not hold its coordinates, then 20, 23 and 28
 abbrev pub written_for : Meaning → Vec2 ℤ → ℕ → List ℕ → Option Block → Result ℕ Told
-written_for m position data-length buffer None = cond (nat_le (prefix_size m.naming) (length buffer)) (Err (refused 23 3 0)) (Err (refused 20 5 0))
-written_for m position data-length buffer (Some b) = cond (fits_fields (coordinates_of m position b)) (written (prefix_of m position b data-length) buffer) (Err (refused 16 5 0))
+written_for m position data_length buffer None = cond (nat_le (prefix_size m.naming) (length buffer)) (Err (refused 23 3 0)) (Err (refused 20 5 0))
+written_for m position data_length buffer (Some b) = cond (fits_fields (coordinates_of m position b)) (written (prefix_of m position b data_length) buffer) (Err (refused 16 5 0))
 
 abbrev pub buffer_for : Meaning → Vec2 ℤ → ℕ → List ℕ → Option Block → List ℕ
-buffer_for m position data-length buffer None = buffer
-buffer_for m position data-length buffer (Some b) = cond (fits_fields (coordinates_of m position b)) (buffer_with (prefix_of m position b data-length) buffer) buffer
+buffer_for m position data_length buffer None = buffer
+buffer_for m position data_length buffer (Some b) = cond (fits_fields (coordinates_of m position b)) (buffer_with (prefix_of m position b data_length) buffer) buffer
 
 -- reading a prefix that was written gives the coordinates of the block with that number, and the data length
 abbrev pub ComesBackFor : Meaning → Vec2 ℤ → ℕ → ℕ → Result ℕ Refusal → List ℕ → Type 0
-ComesBackFor m position number data-length (Ok size) buffer = (b : Block) × (slice_get (all_blocks m) number ≡ Some b) × (prefix_read m.naming buffer ≡ Ok (prefix_of m position b data-length))
-ComesBackFor m position number data-length (Err why) buffer = Unit {0}
+ComesBackFor m position number data_length (Ok size) buffer = (b : Block) × (slice_get (all_blocks m) number ≡ Some b) × (prefix_read m.naming buffer ≡ Ok (prefix_of m position b data_length))
+ComesBackFor m position number data_length (Err why) buffer = Unit {0}

@@ -1,15 +1,13 @@
 -- Every block of a layer is known: by its number, by its pixels, and by its coordinates.
-use Rattle.std.specs.Prelude.{◌≡◌, ℕ, true, length, ℤ, Some, Ok, Err}
+use Rattle.std.specs.Prelude.{◌≡◌, ℕ, true, ℤ, Some, Ok, Err}
 use Rattle.std.specs.List.{slice_get}
 use Rattle.numbers.specs.Refusals.{refused}
 use Rattle.numbers.specs.declared.vec2.Vec2.{Vec2}
-use Rattle.schemes.specs.Blocks.{chunks_in}
 use Rattle.schemes.specs.Meanings.{Meaning}
 use Rattle.schemes.specs.Windows.{Placed}
-use Rattle.blocks.specs.Numbering.{Numbered, all_blocks}
+use Rattle.blocks.specs.Numbering.{Numbered}
 use Rattle.blocks.specs.Pixels.{BoundsCut, PixelsOnce}
-use Rattle.blocks.specs.declared.block.Block.{Block}
-use Rattle.prefixes.specs.Coordinates.{all_coordinates, coordinates_of, fits_fields}
+use Rattle.prefixes.specs.Coordinates.{all_coordinates, fits_fields}
 use Rattle.prefixes.specs.Lookup.{looked_up}
 use Rattle.prefixes.specs.declared.coordinates.BlockCoordinates.{BlockCoordinates}
 

@@ -1,5 +1,5 @@
 // Prefixes written to a lent buffer and read from lent bytes.
-ghost use Rattle.std.specs.Prelude.{◌≡◌, [], ◌∷◌, length as bytes-in, if◌then◌else◌, Some, None, nat_le};
+ghost use Rattle.std.specs.Prelude.{◌≡◌, [], ◌∷◌, length as bytes_in, if◌then◌else◌, Some, None, nat_le};
 ghost use Rattle.blocks.specs.Numbering.{all_blocks};
 ghost use Rattle.fields.specs.Bytes.{int_at, ints_at, ints_bytes, over};
 ghost use Rattle.numbers.specs.Refusals.{outcome, refused};
@@ -32,7 +32,7 @@ const DATA_TOO_LONG: Refusal = Refusal {
 };
 
 fn read_line(bytes: &[u8]) -> Option<(BlockCoordinates, i32)>
-    ensures { result ≡ (if nat_le 8 (bytes-in bytes.now) then Some (at_line (int_at bytes.now 0), int_at bytes.now 4) else None) }
+    ensures { result ≡ (if nat_le 8 (bytes_in bytes.now) then Some (at_line (int_at bytes.now 0), int_at bytes.now 4) else None) }
 {
     let (y, rest) = read::int(bytes)?;
     let (data_length, _) = read::int(rest)?;
@@ -40,7 +40,7 @@ fn read_line(bytes: &[u8]) -> Option<(BlockCoordinates, i32)>
 }
 
 fn read_tile(bytes: &[u8]) -> Option<(BlockCoordinates, i32)>
-    ensures { result ≡ (if nat_le 20 (bytes-in bytes.now) then Some (at_tile (ints_at bytes.now 0) (ints_at bytes.now 8), int_at bytes.now 16) else None) }
+    ensures { result ≡ (if nat_le 20 (bytes_in bytes.now) then Some (at_tile (ints_at bytes.now 0) (ints_at bytes.now 8), int_at bytes.now 16) else None) }
 {
     let ((tile_index, level_index), rest) = read::int_pairs(bytes)?;
     let (data_length, _) = read::int(rest)?;
@@ -83,14 +83,14 @@ fn told(count: Option<usize>) -> Result<usize, Refusal>
 }
 
 fn write_line(buffer: &mut [u8], y: i32, length: i32) -> Option<usize>
-    ensures answer { result ≡ (if nat_le 8 (bytes-in buffer.old) then Some 8 else None) }
+    ensures answer { result ≡ (if nat_le 8 (bytes_in buffer.old) then Some 8 else None) }
     ensures written { buffer.new ≡ over (ints_bytes (y ∷ (length ∷ []))) buffer.old }
 {
     write_ints(buffer, &[y, length])
 }
 
 fn write_tile(buffer: &mut [u8], tile: Vec2<i32>, level: Vec2<i32>, length: i32) -> Option<usize>
-    ensures answer { result ≡ (if nat_le 20 (bytes-in buffer.old) then Some 20 else None) }
+    ensures answer { result ≡ (if nat_le 20 (bytes_in buffer.old) then Some 20 else None) }
     ensures written { buffer.new ≡ over (ints_bytes (tile.0 ∷ (tile.1 ∷ (level.0 ∷ (level.1 ∷ (length ∷ [])))))) buffer.old }
 {
     write_ints(buffer, &[tile.0, tile.1, level.0, level.1, length])

@@ -1,13 +1,13 @@
 -- Lists by their places, and sums over levels that fit.
-use Rattle.std.specs.Prelude.{◌≡◌, ℕ, zero, suc, ◌+◌, ◌*◌, ◌/◌, ◌%◌, ◌^◌, ◌<◌, ◌≤◌, min, List, [], ◌∷◌, ◌++◌, length, take, Some, None, sum_by, Option, slice_index_or, refl}
-use Rattle.std.proofs.Common.{sym, ◌∙◌, ap, subst, zero-le, suc-le-suc, le-mul_of_pos_right, mul-le-mul, le_trans, add-le-add, arith}
+use Rattle.std.specs.Prelude.{◌≡◌, ℕ, zero, suc, ◌+◌, ◌*◌, ◌/◌, ◌^◌, ◌<◌, ◌≤◌, List, [], ◌∷◌, length, take, Some, None, sum_by, slice_index_or, refl}
+use Rattle.std.proofs.Common.{sym, ◌∙◌, ap, zero-le, suc-le-suc, le-mul_of_pos_right, mul-le-mul, arith}
 use Rattle.std.proofs.Math.Nat.{div-add-mod}
 use Rattle.std.specs.List.{slice_get}
 use Rattle.std.proofs.lemmas.List.Sums.{sum_by-cons, sum_by_more, sum_by-take-le, get_or-le-sum_by}
 use Rattle.numbers.specs.Rounding.{ceiling}
 use Rattle.numbers.specs.declared.vec2.Vec2.{Vec2}
 use Rattle.schemes.specs.Blocks.{blocks_in}
-use Rattle.schemes.specs.Meanings.{Meaning, Lawful, block_size, area}
+use Rattle.schemes.specs.Meanings.{Meaning, Lawful, area}
 use Rattle.schemes.specs.declared.level.Level.{Level}
 
 pub ceiling_le : (a b : ℕ) → 0 < b → ceiling a b ≤ a

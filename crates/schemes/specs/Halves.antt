@@ -1,15 +1,15 @@
 -- A side from level to level: when it is one pixel, how many levels it has, and that all its levels add up to less than 2^32.
-use Rattle.std.specs.Prelude.{◌≡◌, ℕ, zero, suc, ◌+◌, ◌-◌, ◌*◌, ◌/◌, ◌%◌, ◌^◌, ◌<◌, ◌≤◌, min, max, Bool, true, false, ltb, leb, ◌⊎◌, List, [], ◌∷◌, sum_by, refl}
-use Rattle.std.proofs.Common.{sym, ◌∙◌, ap, subst, inl, inr, zero-le, pow-suc, mul-le-mul_left, mul-le-mul_right, add-mul, one-mul, div-lt_iff_lt-mul, le-div_iff_mul-le, div-le_self, arith, pow_pos, pow_mono, pow-add}
+use Rattle.std.specs.Prelude.{◌≡◌, ℕ, zero, suc, ◌+◌, ◌*◌, ◌/◌, ◌^◌, ◌<◌, ◌≤◌, true, false, sum_by}
+use Rattle.std.proofs.Common.{subst, inl, inr, pow-suc, mul-le-mul_left, mul-le-mul_right, add-mul, one-mul, div-lt_iff_lt-mul, le-div_iff_mul-le, div-le_self, arith, pow_pos, pow_mono, pow-add}
 use Rattle.std.specs.List.{range_with_len}
 use Rattle.std.proofs.lemmas.List.Sums.{sum_by-cons}
 use Rattle.std.proofs.lemmas.Bool.{ltb-true, ltb-false, leb-true, leb-false, lt-ltb, le-leb, both_ways, cases_lt}
-use Rattle.numbers.specs.Rounding.{ceiling, rounded}
+use Rattle.numbers.specs.Rounding.{ceiling}
 use Rattle.numbers.specs.Logs.{covers, log2}
 use Rattle.numbers.specs.Counts.{side_at, levels_of}
 use Rattle.numbers.specs.declared.rounding.RoundingMode.{RoundingMode}
 use Rattle.numbers.specs.declared.rounding.RoundingMode.TheVariants.{Down, Up}
-use Rattle.numbers.proofs.Powers.{double, log_covers, log_before, up_is}
+use Rattle.numbers.proofs.Powers.{double, log_before, up_is}
 use Rattle.schemes.specs.Sides.{IsSide}
 
 -- at most c blocks where c blocks suffice

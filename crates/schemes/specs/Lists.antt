@@ -1,17 +1,17 @@
 -- The lists of mip and rip levels: what stands where, that they are lawful, and that they end at one pixel.
-use Rattle.std.specs.Prelude.{◌≡◌, ℕ, zero, suc, ◌+◌, ◌-◌, ◌*◌, ◌/◌, ◌%◌, ◌^◌, ◌<◌, ◌≤◌, max, ◌⊎◌, List, [], ◌∷◌, map, length, Some, None, sum_by, Option, refl}
+use Rattle.std.specs.Prelude.{◌≡◌, ℕ, zero, suc, ◌+◌, ◌*◌, ◌/◌, ◌%◌, ◌<◌, ◌≤◌, max, ◌⊎◌, map, length, Some, sum_by, refl}
 use Rattle.std.proofs.Common.{sym, ◌∙◌, ap, subst, inl, inr, mul-le-mul, mul-le-mul_left, div-add-mod', mod-lt, div-lt_iff_lt-mul, add-mul, one-mul, arith}
 use Rattle.std.proofs.Math.Nat.{le-max_left, le-max_right}
 use Rattle.std.specs.List.{slice_get, range_with_len}
-use Rattle.std.proofs.lemmas.List.FromFn.{length-range_with_len, length-map-range_with_len, get_or-range_with_len}
+use Rattle.std.proofs.lemmas.List.FromFn.{length-map-range_with_len}
 use Rattle.std.proofs.lemmas.List.Sums.{sum_by-cons}
 use Rattle.std.proofs.lemmas.Bool.{cases_lt}
-use Rattle.numbers.specs.Logs.{covers, log2}
+use Rattle.numbers.specs.Logs.{log2}
 use Rattle.numbers.specs.Counts.{side_at, levels_of}
 use Rattle.numbers.specs.declared.rounding.RoundingMode.{RoundingMode}
 use Rattle.numbers.proofs.Powers.{log_covers, log_before}
 use Rattle.schemes.specs.Sides.{IsSide}
-use Rattle.schemes.specs.Meanings.{Meaning, Lawful, area, OneByOne}
+use Rattle.schemes.specs.Meanings.{Lawful, area, OneByOne}
 use Rattle.schemes.specs.declared.level.Level.{Level}
 use Rattle.schemes.specs.declared.level.Naming.TheVariants.{Line, Tile}
 use Rattle.schemes.specs.Counting.{nth_some}
@@ -102,16 +102,13 @@ mip_earlier m w h i l one =
 -- rip
 
 pub rip_length : (m : RoundingMode) (w h : ℕ) → length (rip_levels m w h) ≡ levels_of m h * levels_of m w
-rip_length m w h =
-    grid_length (level_at m w h) (levels_of m w) (range_with_len 0 (levels_of m h))
-    ∙ ap (λ n. n * levels_of m w) (length-range_with_len 0 (levels_of m h))
+rip_length m w h = grid_length (level_at m w h) (levels_of m w) 0 (levels_of m h)
 
 -- by row and column
 pub rip_at : (m : RoundingMode) (w h x y : ℕ) → x < levels_of m w → y < levels_of m h → slice_get (rip_levels m w h) (y * levels_of m w + x) ≡ Some (level_at m w h x y)
 rip_at m w h x y a b =
     let z : 0 + y ≡ y = omega arith in
-    grid_at (level_at m w h) (levels_of m w) (range_with_len 0 (levels_of m h)) y x a (omega (arith, length-range_with_len 0 (levels_of m h)))
-    ∙ ap (λ n. Some (level_at m w h x n)) (get_or-range_with_len 0 (levels_of m h) y 0 b ∙ z)
+    grid_at (level_at m w h) (levels_of m w) 0 (levels_of m h) y x a b ∙ ap (λ n. Some (level_at m w h x n)) z
 
 -- by position
 pub rip_by : (m : RoundingMode) (w h i : ℕ) → i / levels_of m w < levels_of m h → slice_get (rip_levels m w h) i ≡ Some (level_at m w h (i % levels_of m w) (i / levels_of m w))

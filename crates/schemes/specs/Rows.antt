@@ -1,8 +1,8 @@
 -- Lists made row by row: what stands where, how long they are, and what they add up to.
-use Rattle.std.specs.Prelude.{◌≡◌, ℕ, zero, suc, ◌+◌, ◌*◌, ◌<◌, ◌≤◌, List, [], ◌∷◌, ◌++◌, map, length, Some, None, sum_by, slice_index, refl}
-use Rattle.std.proofs.Common.{sym, ◌∙◌, ap, subst, add-zero, suc-mul, zero-mul, add-mul, mul-add, arith, length-append}
+use Rattle.std.specs.Prelude.{◌≡◌, ℕ, zero, suc, ◌+◌, ◌*◌, ◌<◌, List, [], ◌∷◌, ◌++◌, map, length, Some, sum_by, slice_index, refl}
+use Rattle.std.proofs.Common.{sym, ◌∙◌, ap, add-zero, suc-mul, zero-mul, add-mul, mul-add, arith, length-append}
 use Rattle.std.specs.List.{slice_get, range_with_len}
-use Rattle.std.proofs.lemmas.List.FromFn.{length-map-range_with_len}
+use Rattle.std.proofs.lemmas.List.FromFn.{length-range_with_len, length-map-range_with_len, get_or-range_with_len}
 use Rattle.std.proofs.lemmas.List.Sums.{sum_by-cons, sum_by-append}
 use Rattle.schemes.specs.Levels.{for_each}
 
@@ -24,18 +24,18 @@ row_at f a (suc n) (suc i) h =
     let e : (a + 1) + i ≡ a + suc i = omega arith in
     row_at f (a + 1) n i (omega arith) ∙ ap (λ x. Some (f x)) e
 
--- a grid has a row for each element of a list, as long as the others
-pub grid_length : {X : Type 0} (f : ℕ → ℕ → X) (w : ℕ) (rs : List ℕ) → length (for_each rs (λ y. map (λ x. f x y) (range_with_len 0 w))) ≡ length rs * w
-grid_length f w [] = sym (zero-mul w)
-grid_length f w (r ∷ rs) =
+-- a grid with a row for each element of a list has them all, each as long as the others
+pub listed_rows_length : {X : Type 0} (f : ℕ → ℕ → X) (w : ℕ) (rs : List ℕ) → length (for_each rs (λ y. map (λ x. f x y) (range_with_len 0 w))) ≡ length rs * w
+listed_rows_length f w [] = sym (zero-mul w)
+listed_rows_length f w (r ∷ rs) =
     let row = map (λ x. f x r) (range_with_len 0 w) in
     let rest = for_each rs (λ y. map (λ x. f x y) (range_with_len 0 w)) in
-    omega (arith, length-append row rest, length-map-range_with_len (λ x. f x r) 0 w, grid_length f w rs, suc-mul (length rs) w)
+    omega (arith, length-append row rest, length-map-range_with_len (λ x. f x r) 0 w, listed_rows_length f w rs, suc-mul (length rs) w)
 
 -- row r, column c
-pub grid_at : {X : Type 0} (f : ℕ → ℕ → X) (w : ℕ) (rs : List ℕ) (r c : ℕ) → c < w → r < length rs → slice_get (for_each rs (λ y. map (λ x. f x y) (range_with_len 0 w))) (r * w + c) ≡ Some (f c (slice_index rs r))
-grid_at f w [] r c h k = let none : ⊥ = omega arith in elim none [ ]
-grid_at {X} f w (s ∷ rs) zero c h k =
+pub listed_rows_at : {X : Type 0} (f : ℕ → ℕ → X) (w : ℕ) (rs : List ℕ) (r c : ℕ) → c < w → r < length rs → slice_get (for_each rs (λ y. map (λ x. f x y) (range_with_len 0 w))) (r * w + c) ≡ Some (f c (slice_index rs r))
+listed_rows_at f w [] r c h k = let none : ⊥ = omega arith in elim none [ ]
+listed_rows_at {X} f w (s ∷ rs) zero c h k =
     let row = map (λ x. f x s) (range_with_len 0 w) in
     let rest = for_each rs (λ y. map (λ x. f x y) (range_with_len 0 w)) in
     let z : 0 * w + c ≡ c = omega (arith, zero-mul w) in
@@ -43,11 +43,20 @@ grid_at {X} f w (s ∷ rs) zero c h k =
     let in_row : c < length row = omega (arith, length-map-range_with_len (λ x. f x s) 0 w) in
     ap (slice_get (row ++ rest)) z ∙ nth_left row rest c in_row ∙ row_at (λ x. f x s) 0 w c h
     ∙ ap (λ x. Some (f x s)) y
-grid_at {X} f w (s ∷ rs) (suc r) c h k =
+listed_rows_at {X} f w (s ∷ rs) (suc r) c h k =
     let row = map (λ x. f x s) (range_with_len 0 w) in
     let rest = for_each rs (λ y. map (λ x. f x y) (range_with_len 0 w)) in
     let z : suc r * w + c ≡ length row + (r * w + c) = omega (arith, suc-mul r w, length-map-range_with_len (λ x. f x s) 0 w) in
-    ap (slice_get (row ++ rest)) z ∙ nth_right row rest (r * w + c) ∙ grid_at f w rs r c h (omega arith)
+    ap (slice_get (row ++ rest)) z ∙ nth_right row rest (r * w + c) ∙ listed_rows_at f w rs r c h (omega arith)
+
+-- a grid whose rows are numbered from b on
+pub grid_length : {X : Type 0} (f : ℕ → ℕ → X) (w b n : ℕ) → length (for_each (range_with_len b n) (λ y. map (λ x. f x y) (range_with_len 0 w))) ≡ n * w
+grid_length f w b n = listed_rows_length f w (range_with_len b n) ∙ ap (λ k. k * w) (length-range_with_len b n)
+
+pub grid_at : {X : Type 0} (f : ℕ → ℕ → X) (w b n r c : ℕ) → c < w → r < n → slice_get (for_each (range_with_len b n) (λ y. map (λ x. f x y) (range_with_len 0 w))) (r * w + c) ≡ Some (f c (b + r))
+grid_at f w b n r c h k =
+    listed_rows_at f w (range_with_len b n) r c h (omega (arith, length-range_with_len b n))
+    ∙ ap (λ y. Some (f c y)) (get_or-range_with_len b n r 0 k)
 
 -- a sum over a grid of products is the product of the sums
 row_sum : {X : Type 0} (g : X → ℕ) (f : ℕ → X) (p : ℕ → ℕ) (q : ℕ) → ((x : ℕ) → g (f x) ≡ p x * q) → (a n : ℕ) → sum_by g (map f (range_with_len a n)) ≡ sum_by p (range_with_len a n) * q

@@ -1,6 +1,5 @@
 -- The meanings of the four schemes.
 use Rattle.std.specs.Prelude.{ℕ, List}
-use Rattle.numbers.specs.declared.vec2.Vec2.{Vec2}
 use Rattle.schemes.specs.Levels.{one_level, mip_levels, rip_levels}
 use Rattle.schemes.specs.Meanings.{Meaning}
 use Rattle.schemes.specs.declared.any_scheme.AnyScheme.{AnyScheme}
@@ -10,7 +9,6 @@ use Rattle.schemes.specs.declared.level.Naming.TheVariants.{Line, Tile}
 use Rattle.schemes.specs.declared.mip.Mip.{Mip}
 use Rattle.schemes.specs.declared.rip.Rip.{Rip}
 use Rattle.schemes.specs.declared.scan_lines.ScanLines.{ScanLines}
-use Rattle.schemes.specs.declared.side.Side.{Side}
 use Rattle.schemes.specs.declared.single.Single.{Single}
 
 -- a w by h layer in blocks of whole lines
@@ -19,7 +17,7 @@ in_lines w h lines = record { block_width = w; block_height = lines; naming = Li
 
 -- these levels in tiles of this size
 abbrev pub in_tiles : ℕ → ℕ → List Level → Meaning
-in_tiles tile-width tile-height levels = record { block_width = tile-width; block_height = tile-height; naming = Tile; levels = levels }
+in_tiles tile_width tile_height levels = record { block_width = tile_width; block_height = tile_height; naming = Tile; levels = levels }
 
 abbrev pub scan_lines_meaning : ScanLines → Meaning
 scan_lines_meaning s = in_lines s.size.0.pixels s.size.1.pixels s.lines.pixels

@@ -1,5 +1,5 @@
 -- A channel that is refused leaves the channels as they were.
-use Rattle.std.proofs.Common.{◌≡◌, ℕ, ◌+◌, true, false, ltb, ◌⊎◌, List, length, Ok, Err, Result, sym, ap, ◌∙◌, inl, inr, arith}
+use Rattle.std.proofs.Common.{◌≡◌, ℕ, ◌+◌, ltb, List, length, Ok, Err, Result, sym, ap, ◌∙◌, inl, inr, arith}
 use Rattle.std.proofs.lemmas.Bool.{cases_Bool, cond-true, cond-false}
 use Rattle.numbers.specs.Refusals.{Told, refused, told}
 use Rattle.numbers.specs.declared.refusal.Refusal.{Refusal}

@@ -1,5 +1,5 @@
 -- A run, line by line.
-use Rattle.std.proofs.Common.{◌≡◌, ℕ, suc, ◌<◌, ◌≤◌, Bool, true, false, cond, eqb, leb, List, [], ◌∷◌, ◌++◌, length, get_or, drop, Some, None, Option, sym, refl, ap, ◌∙◌, subst, append_assoc, append-nil, arith, length-drop}
+use Rattle.std.proofs.Common.{◌≡◌, ℕ, ◌<◌, ◌≤◌, Bool, true, false, cond, eqb, leb, List, [], ◌∷◌, ◌++◌, length, get_or, drop, Some, None, Option, sym, refl, ap, ◌∙◌, subst, append_assoc, arith, length-drop}
 use Rattle.std.proofs.lemmas.Bool.{eqb-true}
 use Rattle.numbers.specs.Wholes.{optional}
 use Rattle.commands.specs.Commands.{command as command_of, operand_bytes, read_command}
@@ -8,7 +8,7 @@ use Rattle.session.specs.Runs.{Run}
 use Rattle.session.specs.Sessions.{Held, Said, said, stepped}
 use Rattle.session.specs.declared.answer.Answer.{Answer}
 use Rattle.session.specs.declared.line.Line.{Line}
-use Rattle.session.specs.declared.line.Line.TheVariants.{Answered, Unreadable}
+use Rattle.session.specs.declared.line.Line.TheVariants.{Answered}
 
 absurd_some : {P : Type 0} {A : Type 0} {a : A} → ◌≡◌ {A = Option A} None (Some a) → P
 absurd_some e = let z : ◌≡◌ {A = ℕ} 0 1 = cc in let none : ⊥ = omega arith in elim none [ ]

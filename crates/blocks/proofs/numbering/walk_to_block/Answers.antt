@@ -1,12 +1,12 @@
-use Rattle.std.proofs.Common.{◌≡◌, ℕ, ◌+◌, ◌-◌, ◌*◌, ◌/◌, ◌%◌, ◌<◌, ◌≤◌, List, length, drop, Some, None, Ok, Err, Option, Result, sym, ap, ◌∙◌, subst, arith}
+use Rattle.std.proofs.Common.{◌+◌, ◌-◌, ◌/◌, ◌%◌, ◌<◌, ◌≤◌, List, length, drop, Some, None, Ok, Err, Option, Result, sym, ap, ◌∙◌, subst, arith}
 use Rattle.std.proofs.lemmas.List.{drop_all}
 use Rattle.std.specs.List.{slice_get}
 use Rattle.numbers.specs.Refusals.{Told, refused}
 use Rattle.schemes.specs.Blocks.{blocks_in}
-use Rattle.schemes.specs.Meanings.{Meaning, Lawful, block_size}
+use Rattle.schemes.specs.Meanings.{Lawful, block_size}
 use Rattle.schemes.specs.declared.level.Level.{Level}
 use Rattle.schemes.specs.Counting.{nth_none}
-use Rattle.blocks.specs.Numbering.{across, all_blocks, block_at, blocks_from}
+use Rattle.blocks.specs.Numbering.{block_at, blocks_from}
 use Rattle.blocks.specs.declared.block.Block.{Block}
 use Rattle.blocks.specs.declared.line_order.LineOrder.TheVariants.{Increasing}
 use Rattle.blocks.proofs.Cutting.{is_cut, no_cut, cut_blocks, cut_fits}

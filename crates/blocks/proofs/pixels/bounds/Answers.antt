@@ -1,9 +1,7 @@
-use Rattle.std.proofs.Common.{◌≡◌, ℕ, Ok, Err, sym, ap, ◌∙◌, arith}
+use Rattle.std.proofs.Common.{◌≡◌, ℕ, ap, ◌∙◌, arith}
 use Rattle.numbers.specs.declared.vec2.Vec2.{Vec2}
 use Rattle.schemes.specs.Meanings.{block_size}
-use Rattle.blocks.specs.Bounds.{tile_of}
 use Rattle.blocks.specs.Tiles.{data_indices}
-use Rattle.blocks.specs.declared.tile.TileCoordinates.{TileCoordinates}
 use Rattle.blocks.proofs.Clipping.{level_size, tile_bounds}
 use Rattle.blocks.proofs.pixels.bounds.Goals as goal
 

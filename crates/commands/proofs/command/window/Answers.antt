@@ -1,4 +1,4 @@
-use Rattle.std.proofs.Common.{get_or-drop, rules}
+use Rattle.std.proofs.Common.{get_or-drop}
 use Rattle.commands.specs.Commands.{words_at}
 use Rattle.commands.proofs.Taken.{both, second_cut}
 use Rattle.commands.proofs.command.window.Goals as goal

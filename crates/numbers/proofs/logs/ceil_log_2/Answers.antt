@@ -1,4 +1,4 @@
-use Rattle.std.proofs.Common.{ℕ, ◌+◌, sym, subst, arith}
+use Rattle.std.proofs.Common.{ℕ, sym, subst, arith}
 use Rattle.std.proofs.lemmas.Bool.{le-leb}
 use Rattle.numbers.specs.Logs.{Least}
 use Rattle.numbers.specs.declared.rounding.RoundingMode.TheVariants.{Up}

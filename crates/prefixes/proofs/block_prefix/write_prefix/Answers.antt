@@ -1,4 +1,4 @@
-use Rattle.std.proofs.Common.{◌≡◌, ℕ, ◌<◌, ◌≤◌, length, Err, sym, refl, ap, ◌∙◌, arith}
+use Rattle.std.proofs.Common.{◌≡◌, Err, refl, ap, ◌∙◌, arith}
 use Rattle.numbers.specs.declared.refusal.Module.TheVariants.{Prefixes}
 use Rattle.numbers.specs.declared.refusal.Reason.TheVariants.{UnreadableBytes}
 use Rattle.blocks.proofs.Answering.{answered, is_listed, no_block, refused_by}

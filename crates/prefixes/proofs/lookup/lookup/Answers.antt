@@ -1,4 +1,4 @@
-use Rattle.std.proofs.Common.{◌≡◌, ℕ, Some, None, Ok, Err, Option, Result, ap, ◌∙◌}
+use Rattle.std.proofs.Common.{ℕ, Some, None, Ok, Err, Option, Result, ap, ◌∙◌}
 use Rattle.numbers.specs.Refusals.{Told, refused}
 use Rattle.prefixes.proofs.Finding.{blocks_known, is_looked_up}
 use Rattle.prefixes.proofs.lookup.lookup.Goals as goal

@@ -1,6 +1,6 @@
 use Rattle.std.proofs.Common.{◌≡◌, sum_by, ap, ◌∙◌, arith}
 use Rattle.schemes.specs.Blocks.{blocks_in}
-use Rattle.schemes.specs.Meanings.{Lawful, Meaning}
+use Rattle.schemes.specs.Meanings.{Lawful}
 use Rattle.schemes.proofs.chunk_count.compute_chunk_count.Goals as goal
 
 pub count_blocks-requires : goal.count_blocks-requires

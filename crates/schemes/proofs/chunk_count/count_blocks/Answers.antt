@@ -1,4 +1,4 @@
-use Rattle.std.proofs.Common.{◌≡◌, ℕ, ◌+◌, ◌<◌, ◌≤◌, length, take, sum_by, ap, ◌∙◌, arith, take_all}
+use Rattle.std.proofs.Common.{◌+◌, ◌≤◌, length, sum_by, ap, ◌∙◌, arith, take_all}
 use Rattle.schemes.specs.Blocks.{blocks_in}
 use Rattle.schemes.specs.Meanings.{Lawful}
 use Rattle.schemes.specs.Counting.{sum_step, one_fits, so_far_fits, nth_none}

@@ -1,4 +1,4 @@
-use Rattle.std.proofs.Common.{◌*◌, ◌≤◌, mul-le-mul, arith}
+use Rattle.std.proofs.Common.{◌≤◌, mul-le-mul, arith}
 use Rattle.schemes.specs.Counting.{ceiling_le}
 use Rattle.schemes.proofs.chunk_count.level_block_count.Goals as goal
 

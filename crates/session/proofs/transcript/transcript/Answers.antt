@@ -1,4 +1,4 @@
-use Rattle.std.proofs.Common.{◌≡◌, ◌<◌, ◌≤◌, List, [], ◌∷◌, ◌++◌, length, vec_items, sym, refl, subst, append-nil, arith}
+use Rattle.std.proofs.Common.{List, [], ◌∷◌, length, vec_items, sym, refl, subst, append-nil, arith}
 use Rattle.session.specs.Runs.{Run}
 use Rattle.session.specs.Sessions.{channels, held, shown}
 use Rattle.session.specs.declared.line.Line.{Line}

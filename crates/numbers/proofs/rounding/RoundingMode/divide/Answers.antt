@@ -1,4 +1,3 @@
-use Rattle.std.proofs.Common.{◌≡◌, sym, ◌∙◌}
 use Rattle.numbers.proofs.Quotients.{answered}
 use Rattle.numbers.proofs.rounding.RoundingMode.divide.Goals as goal
 

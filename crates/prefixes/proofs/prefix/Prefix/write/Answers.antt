@@ -1,4 +1,4 @@
-use Rattle.std.proofs.Common.{◌≡◌, ℕ, ◌≤◌, length, pos, sym, ap, ◌∙◌, arith, w32, SFits, to_z, rules}
+use Rattle.std.proofs.Common.{◌≡◌, ap, ◌∙◌, arith, w32, SFits, rules}
 use Rattle.std.proofs.lemmas.Int.{to_z-of_z, to_z_pos}
 use Rattle.prefixes.specs.Bytes.{prefix_size, size_of}
 use Rattle.prefixes.proofs.Writing.{line_comes, line_fields, size_as, tile_comes, tile_fields, wrote}

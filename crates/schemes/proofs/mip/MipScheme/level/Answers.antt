@@ -1,4 +1,4 @@
-use Rattle.std.proofs.Common.{◌≡◌, ℕ, ◌<◌, ◌≤◌, max, length, Some, sym, ap, ◌∙◌, arith}
+use Rattle.std.proofs.Common.{◌≡◌, ℕ, ◌<◌, ◌≤◌, length, Some, sym, ap, ◌∙◌, arith}
 use Rattle.numbers.specs.Counts.{side_at}
 use Rattle.schemes.specs.Levels.{mip_levels}
 use Rattle.schemes.specs.declared.level.Level.{Level}

@@ -1,4 +1,4 @@
-use Rattle.std.proofs.Common.{◌≡◌, ℕ, ◌<◌, ◌≤◌, sym, refl, ap, ◌∙◌, arith}
+use Rattle.std.proofs.Common.{◌≡◌, sym, refl, ap, ◌∙◌, arith}
 use Rattle.schemes.specs.Levels.{mip_levels, level_at}
 use Rattle.schemes.specs.declared.level.Level.{Level}
 use Rattle.schemes.specs.Lists.{mip_length, mip_at, mip_is, mip_lawful}

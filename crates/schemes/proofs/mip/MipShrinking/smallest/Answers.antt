@@ -1,4 +1,4 @@
-use Rattle.std.proofs.Common.{◌≡◌, ℕ, ◌+◌, ◌-◌, max, subst, arith}
+use Rattle.std.proofs.Common.{◌≡◌, ℕ, ◌-◌, max, subst, arith}
 use Rattle.std.specs.List.{slice_get}
 use Rattle.numbers.specs.Logs.{log2}
 use Rattle.schemes.specs.Levels.{mip_levels}

@@ -1,4 +1,4 @@
-use Rattle.std.proofs.Common.{◌≡◌, ℕ, ◌+◌, ◌*◌, ◌/◌, ◌%◌, ◌<◌, ◌≤◌, Some, refl, ap, ◌∙◌, mod-lt, arith}
+use Rattle.std.proofs.Common.{◌≡◌, ◌+◌, ◌*◌, ◌/◌, ◌%◌, ◌<◌, Some, refl, ap, ◌∙◌, mod-lt, arith}
 use Rattle.numbers.specs.Counts.{levels_of}
 use Rattle.schemes.specs.Levels.{rip_levels, level_at}
 use Rattle.schemes.specs.declared.level.Level.{Level}

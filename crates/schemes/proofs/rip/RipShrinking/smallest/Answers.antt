@@ -1,4 +1,4 @@
-use Rattle.std.proofs.Common.{◌≡◌, ℕ, ◌+◌, ◌-◌, ◌*◌, ◌≤◌, subst, add-mul, mul-le-mul, one-mul, arith}
+use Rattle.std.proofs.Common.{◌≡◌, ℕ, ◌+◌, ◌-◌, ◌*◌, subst, add-mul, one-mul, arith}
 use Rattle.std.specs.List.{slice_get}
 use Rattle.numbers.specs.Counts.{levels_of}
 use Rattle.numbers.specs.Logs.{log2}
