@@ -4,7 +4,7 @@
     (cd crates/block_table && rt run >/dev/null) && tools/bench.py crates/block_table/out/block_table
 
 A question is asked so often that a run takes about a second; the time of a run that asks nothing is taken off it, and the
-least of seven runs is told.
+least of seven runs is told. docs/SPEED.md has figures.
 """
 import subprocess
 import sys
