@@ -6,7 +6,7 @@ use Rattle.numbers.specs.declared.vec2.Vec2.{Vec2}
 use Rattle.schemes.specs.Blocks.{blocks_in}
 use Rattle.schemes.specs.Meanings.{Meaning, Lawful, block_size}
 use Rattle.schemes.specs.declared.level.Level.{Level}
-use Rattle.schemes.specs.Counting.{chunks_le, one_fits}
+use Rattle.schemes.proofs.Counting.{chunks_le, one_fits}
 use Rattle.blocks.specs.Cuts.{cut_of}
 use Rattle.blocks.specs.Numbering.{across, down}
 use Rattle.blocks.specs.declared.cut.Cut.{Cut}

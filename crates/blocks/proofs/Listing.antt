@@ -9,8 +9,7 @@ use Rattle.std.proofs.lemmas.Bool.{cases_lt}
 use Rattle.numbers.specs.declared.vec2.Vec2.{Vec2}
 use Rattle.schemes.specs.Blocks.{blocks_in}
 use Rattle.schemes.specs.declared.level.Level.{Level}
-use Rattle.schemes.specs.Counting.{nth_some}
-use Rattle.schemes.specs.Rows.{nth_left, nth_right, listed_rows_at, listed_rows_length}
+use Rattle.schemes.specs.Rows.{listed_rows_at, listed_rows_length, nth_left, nth_right, nth_some}
 use Rattle.blocks.specs.Numbering.{across, down, block_at, rows, level_blocks, blocks_from}
 use Rattle.blocks.specs.Orders.{turned}
 use Rattle.blocks.specs.declared.line_order.LineOrder.{LineOrder}

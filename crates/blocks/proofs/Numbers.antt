@@ -3,7 +3,8 @@ use Rattle.std.proofs.Common.{◌≡◌, ℕ, ◌+◌, ◌*◌, ◌/◌, ◌%◌
 use Rattle.std.specs.List.{slice_get}
 use Rattle.schemes.specs.Blocks.{blocks_in, chunks_in}
 use Rattle.schemes.specs.Meanings.{Meaning, Lawful, area, block_size}
-use Rattle.schemes.specs.Counting.{nth_some, chunks_le, sumBy_mono}
+use Rattle.schemes.proofs.Counting.{chunks_le, sumBy_mono}
+use Rattle.schemes.specs.Rows.{nth_some}
 use Rattle.blocks.specs.Numbering.{across, down, block_at, all_blocks, blocks_by, blocks_before, number_of, IsBlock, Numbered}
 use Rattle.blocks.specs.Orders.{turned}
 use Rattle.blocks.specs.declared.block.Block.{Block}

@@ -6,7 +6,8 @@ use Rattle.std.specs.List.{slice_get}
 use Rattle.numbers.specs.Wholes.{optional}
 use Rattle.schemes.specs.Blocks.{chunks_in}
 use Rattle.schemes.specs.Meanings.{Meaning, Lawful, block_size}
-use Rattle.schemes.specs.Counting.{nth_none, nth_past, nth_some}
+use Rattle.schemes.proofs.Counting.{nth_none, nth_past}
+use Rattle.schemes.specs.Rows.{nth_some}
 use Rattle.blocks.specs.Numbering.{across, down, all_blocks, block_at, blocks_by, number_of, of_block, IsBlock}
 use Rattle.blocks.specs.Bounds.{bounds_of, indices_of, tile_of}
 use Rattle.blocks.specs.Cuts.{cut_of}

@@ -1,5 +1,5 @@
 // The pixels under a block.
-ghost use Rattle.std.specs.Prelude.{◌≡◌, ◌<◌, ◌≤◌};
+ghost use Rattle.std.specs.Prelude.{◌≡◌};
 ghost use Rattle.blocks.specs.Bounds.{bounds_of, tile_of};
 ghost use Rattle.blocks.specs.Numbering.{IsBlock, of_block};
 ghost use Rattle.blocks.specs.Pixels.{BoundsCut, PixelsOnce};

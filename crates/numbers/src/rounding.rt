@@ -1,5 +1,5 @@
 // Rounding down or up, of quotients and of logarithms to base 2.
-ghost use Rattle.std.specs.Prelude.{◌≡◌, ℕ, ℤ};
+ghost use Rattle.std.specs.Prelude.{◌≡◌};
 ghost use Rattle.numbers.specs.Logs.{log2 as log_of};
 ghost use Rattle.numbers.specs.Refusals.{outcome_as};
 ghost use Rattle.numbers.specs.Rounding.{divided, AnswersRounded};

@@ -12,7 +12,7 @@ use Rattle.schemes.specs.Meanings.{Meaning, Lawful, position_of}
 use Rattle.schemes.specs.Windows.{Placed, axis_fits}
 use Rattle.schemes.specs.declared.level.Level.{Level}
 use Rattle.schemes.specs.declared.level.Naming.TheVariants as by
-use Rattle.schemes.specs.Counting.{nth_some}
+use Rattle.schemes.specs.Rows.{nth_some}
 use Rattle.schemes.proofs.Placed.{placed, there}
 use Rattle.blocks.specs.Numbering.{block_at, number_at, number_of, IsBlock}
 use Rattle.blocks.specs.declared.block.Block.{Block}

@@ -6,7 +6,7 @@ use Rattle.numbers.specs.Wholes.{within}
 use Rattle.numbers.specs.declared.vec2.Vec2.{Vec2}
 use Rattle.schemes.specs.Meanings.{Meaning, Lawful, block_size}
 use Rattle.schemes.specs.declared.level.Naming.TheVariants as by
-use Rattle.schemes.specs.Counting.{ceiling_le}
+use Rattle.schemes.proofs.Counting.{ceiling_le}
 use Rattle.blocks.specs.Numbering.{IsBlock}
 use Rattle.blocks.specs.declared.block.Block.{Block}
 use Rattle.blocks.proofs.Clipping.{corner_in}

@@ -1,12 +1,10 @@
 // Prefixes written to a lent buffer and read from lent bytes.
 ghost use Rattle.std.specs.Prelude.{◌≡◌, [], ◌∷◌, length as bytes_in, if◌then◌else◌, Some, None, nat_le};
-ghost use Rattle.blocks.specs.Numbering.{all_blocks};
 ghost use Rattle.fields.specs.Bytes.{int_at, ints_at, ints_bytes, over};
 ghost use Rattle.numbers.specs.Refusals.{outcome, refused};
-ghost use Rattle.prefixes.specs.Bytes.{ComesBack, ComesBackFor, buffer_for, buffer_with, prefix_read, written, written_for};
+ghost use Rattle.prefixes.specs.Bytes.{ComesBack, buffer_with, prefix_read, written};
 ghost use Rattle.prefixes.specs.declared.coordinates.BlockCoordinates.TheVariants.{Line as at_line, Tile as at_tile};
 ghost use Rattle.std.specs.Option.{ok_or};
-ghost use Rattle.std.specs.List.{slice_get};
 
 use crate::coordinates::BlockCoordinates;
 use crate::naming::prefix_size;

@@ -14,11 +14,10 @@ use Rattle.schemes.specs.Sides.{IsSide}
 use Rattle.schemes.specs.Meanings.{Lawful, area, OneByOne}
 use Rattle.schemes.specs.declared.level.Level.{Level}
 use Rattle.schemes.specs.declared.level.Naming.TheVariants.{Line, Tile}
-use Rattle.schemes.specs.Counting.{nth_some}
+use Rattle.schemes.specs.Rows.{grid_at, grid_length, grid_sum, nth_some, row_at}
 use Rattle.schemes.specs.Levels.{level_at, mip_levels, rip_levels}
 use Rattle.schemes.specs.Schemes.{in_tiles}
 use Rattle.schemes.specs.Halves.{size_one, size_two, size_side, side_levels, covers_more, sum_halves}
-use Rattle.schemes.specs.Rows.{row_at, grid_at, grid_length, grid_sum}
 
 -- mip
 

@@ -1,10 +1,16 @@
 -- Lists made row by row: what stands where, how long they are, and what they add up to.
-use Rattle.std.specs.Prelude.{◌≡◌, ℕ, zero, suc, ◌+◌, ◌*◌, ◌<◌, List, [], ◌∷◌, ◌++◌, map, length, Some, sum_by, slice_index, refl}
-use Rattle.std.proofs.Common.{sym, ◌∙◌, ap, add-zero, suc-mul, zero-mul, add-mul, mul-add, arith, length-append}
+use Rattle.std.specs.Prelude.{◌≡◌, ℕ, zero, suc, ◌+◌, ◌*◌, ◌<◌, List, [], ◌∷◌, ◌++◌, map, length, Some, sum_by, slice_index, slice_index_or, refl}
+use Rattle.std.proofs.Common.{sym, ◌∙◌, ap, add-zero, suc-mul, zero-mul, add-mul, mul-add, arith, suc-le-suc, length-append}
 use Rattle.std.specs.List.{slice_get, range_with_len}
 use Rattle.std.proofs.lemmas.List.FromFn.{length-range_with_len, length-map-range_with_len, get_or-range_with_len}
 use Rattle.std.proofs.lemmas.List.Sums.{sum_by-cons, sum_by-append}
 use Rattle.schemes.specs.Levels.{for_each}
+
+-- an element that is there
+pub nth_some : {X : Type 0} (xs : List X) (i : ℕ) (x : X) → slice_get xs i ≡ Some x → (i < length xs) × (slice_index_or xs i x ≡ x)
+nth_some [] i x e = let z : ◌≡◌ {A = ℕ} 0 1 = cc in (omega arith, cc)
+nth_some (y ∷ ys) zero x e = (omega arith, cc)
+nth_some (y ∷ ys) (suc i) x e = let k = nth_some ys i x e in (suc-le-suc k.0, k.1)
 
 pub nth_left : {X : Type 0} (xs ys : List X) (k : ℕ) → k < length xs → slice_get (xs ++ ys) k ≡ slice_get xs k
 nth_left [] ys k l = let none : ⊥ = omega arith in elim none [ ]

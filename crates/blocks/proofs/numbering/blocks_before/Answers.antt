@@ -2,7 +2,7 @@ use Rattle.std.proofs.Common.{◌+◌, arith}
 use Rattle.std.specs.List.{slice_get}
 use Rattle.schemes.specs.Blocks.{blocks_in}
 use Rattle.schemes.specs.Meanings.{Lawful, block_size}
-use Rattle.schemes.specs.Counting.{nth_none, so_far_fits, sum_step}
+use Rattle.schemes.proofs.Counting.{nth_none, so_far_fits, sum_step}
 use Rattle.blocks.proofs.Cutting.{is_cut, no_cut, cut_blocks, cut_fits}
 use Rattle.blocks.proofs.numbering.blocks_before.Goals as goal
 use Rattle.blocks.proofs.numbering.blocks_before.Goals.{in-Some, in_default}

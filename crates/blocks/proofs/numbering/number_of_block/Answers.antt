@@ -1,7 +1,7 @@
 use Rattle.std.proofs.Common.{sym, arith}
 use Rattle.std.specs.List.{slice_get}
 use Rattle.schemes.specs.Meanings.{block_size}
-use Rattle.schemes.specs.Counting.{nth_some}
+use Rattle.schemes.specs.Rows.{nth_some}
 use Rattle.blocks.proofs.Cutting.{is_cut}
 use Rattle.blocks.proofs.Numbers.{number_fits}
 use Rattle.blocks.proofs.numbering.number_of_block.Goals as goal

@@ -5,7 +5,7 @@ use Rattle.numbers.specs.Refusals.{Told, refused}
 use Rattle.schemes.specs.Blocks.{blocks_in}
 use Rattle.schemes.specs.Meanings.{Lawful, block_size}
 use Rattle.schemes.specs.declared.level.Level.{Level}
-use Rattle.schemes.specs.Counting.{nth_none}
+use Rattle.schemes.proofs.Counting.{nth_none}
 use Rattle.blocks.specs.Numbering.{block_at, blocks_from}
 use Rattle.blocks.specs.declared.block.Block.{Block}
 use Rattle.blocks.specs.declared.line_order.LineOrder.TheVariants.{Increasing}

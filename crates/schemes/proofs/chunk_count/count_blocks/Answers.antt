@@ -1,7 +1,7 @@
 use Rattle.std.proofs.Common.{◌+◌, ◌≤◌, length, sum_by, ap, ◌∙◌, arith, take_all}
 use Rattle.schemes.specs.Blocks.{blocks_in}
 use Rattle.schemes.specs.Meanings.{Lawful}
-use Rattle.schemes.specs.Counting.{sum_step, one_fits, so_far_fits, nth_none}
+use Rattle.schemes.proofs.Counting.{sum_step, one_fits, so_far_fits, nth_none}
 use Rattle.schemes.proofs.chunk_count.count_blocks.Goals as goal
 use Rattle.schemes.proofs.chunk_count.count_blocks.Goals.{in-Some, in_default}
 

@@ -1,5 +1,5 @@
 use Rattle.std.proofs.Common.{◌≤◌, mul-le-mul, arith}
-use Rattle.schemes.specs.Counting.{ceiling_le}
+use Rattle.schemes.proofs.Counting.{ceiling_le}
 use Rattle.schemes.proofs.chunk_count.level_block_count.Goals as goal
 
 pub overflow_mul-result : goal.overflow_mul-result

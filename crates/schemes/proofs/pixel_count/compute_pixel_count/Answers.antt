@@ -1,5 +1,5 @@
 use Rattle.std.proofs.Common.{◌∙◌}
-use Rattle.schemes.specs.Counting.{pixels}
+use Rattle.schemes.proofs.Counting.{pixels}
 use Rattle.schemes.proofs.pixel_count.compute_pixel_count.Goals as goal
 
 pub returns : goal.returns

@@ -3,7 +3,7 @@ use Rattle.numbers.specs.Counts.{side_at}
 use Rattle.schemes.specs.Levels.{mip_levels}
 use Rattle.schemes.specs.declared.level.Level.{Level}
 use Rattle.schemes.specs.declared.mip.Mip.{Mip}
-use Rattle.schemes.specs.Counting.{nth_past}
+use Rattle.schemes.proofs.Counting.{nth_past}
 use Rattle.schemes.specs.Lists.{mip_length, mip_at, mip_low}
 use Rattle.schemes.proofs.mip.MipScheme.level.Goals as goal
 

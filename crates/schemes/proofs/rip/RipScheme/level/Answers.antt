@@ -2,7 +2,7 @@ use Rattle.std.proofs.Common.{◌≡◌, ℕ, ◌*◌, ◌/◌, ◌%◌, ◌<◌
 use Rattle.numbers.specs.Counts.{levels_of, side_at}
 use Rattle.schemes.specs.Levels.{rip_levels, level_at}
 use Rattle.schemes.specs.declared.level.Level.{Level}
-use Rattle.schemes.specs.Counting.{nth_past}
+use Rattle.schemes.proofs.Counting.{nth_past}
 use Rattle.schemes.specs.Lists.{rip_length, rip_by}
 use Rattle.schemes.proofs.rip.RipScheme.level.Goals as goal
 

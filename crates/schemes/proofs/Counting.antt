@@ -8,6 +8,7 @@ use Rattle.numbers.specs.Rounding.{ceiling}
 use Rattle.numbers.specs.declared.vec2.Vec2.{Vec2}
 use Rattle.schemes.specs.Blocks.{blocks_in}
 use Rattle.schemes.specs.Meanings.{Meaning, Lawful, area}
+use Rattle.schemes.specs.Rows.{nth_some}
 use Rattle.schemes.specs.declared.level.Level.{Level}
 
 pub ceiling_le : (a b : ℕ) → 0 < b → ceiling a b ≤ a
@@ -19,11 +20,6 @@ chunks_le b w h l = mul-le-mul (ceiling_le l.width _ w) (ceiling_le l.height _ h
 pub sumBy_mono : {X : Type 0} (f g : X → ℕ) → ((x : X) → f x ≤ g x) → (xs : List X) → sum_by f xs ≤ sum_by g xs
 sumBy_mono f g h [] = zero-le
 sumBy_mono f g h (x ∷ xs) = omega (arith, sum_by-cons f x xs, sum_by-cons g x xs, h x, sumBy_mono f g h xs)
-
-pub nth_some : {X : Type 0} (xs : List X) (i : ℕ) (x : X) → slice_get xs i ≡ Some x → (i < length xs) × (slice_index_or xs i x ≡ x)
-nth_some [] i x e = let z : ◌≡◌ {A = ℕ} 0 1 = cc in (omega arith, cc)
-nth_some (y ∷ ys) zero x e = (omega arith, cc)
-nth_some (y ∷ ys) (suc i) x e = let k = nth_some ys i x e in (suc-le-suc k.0, k.1)
 
 pub nth_none : {X : Type 0} (xs : List X) (i : ℕ) → None ≡ slice_get xs i → length xs ≤ i
 nth_none [] i e = zero-le
