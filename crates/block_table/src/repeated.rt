@@ -5,7 +5,7 @@ use blocks::pixels::bounds_of_block;
 use blocks::tile::TileCoordinates;
 use layout::layer::Layer;
 use numbers::refusal::Refusal;
-use prefixes::naming::block_coordinates;
+use prefixes::positioned::Positioned;
 use schemes::chunk_count::compute_chunk_count;
 use schemes::scheme::Scheme;
 use std::alloc::{AllocError, Global};
@@ -78,7 +78,11 @@ fn lookups(layer: &Layer, times: usize) -> usize {
     let scheme = layer.scheme();
     let mut sum = 0usize;
     for i in 0..times {
-        if let Ok(coordinates) = block_coordinates(&scheme, layer.position(), sample(layer, i)) {
+        let image = Positioned {
+            scheme,
+            position: layer.position(),
+        };
+        if let Ok(coordinates) = image.block_coordinates(sample(layer, i)) {
             sum = sum.wrapping_add(layer.lookup(coordinates).unwrap_or(0));
         }
     }

@@ -1,7 +1,9 @@
 -- What an answer about a number tells of its block.
 use Rattle.std.proofs.Common.{◌≡◌, ℕ, Some, None, Ok, Err, Option, Result, sym, ap, ◌∙◌, inl, inr, arith}
 use Rattle.std.specs.List.{slice_get}
-use Rattle.numbers.specs.Refusals.{Told, refused}
+use Rattle.std.specs.Result.{result_ok}
+use Rattle.numbers.specs.Refusals.{Told, outcome, refused, told}
+use Rattle.numbers.specs.declared.refusal.Refusal.{Refusal}
 use Rattle.schemes.specs.Meanings.{Meaning}
 use Rattle.blocks.specs.Numbering.{all_blocks, number_of, of_block, IsBlock}
 use Rattle.blocks.specs.declared.block.Block.{Block}
@@ -50,3 +52,12 @@ refused_by m n why e =
 
 pub refuses : {A : Type 0} (f : Block → A) (m : Meaning) (n : ℕ) (why : Told) → Err why ≡ of_block m n (λ x. x) → ◌≡◌ {A = Result A Told} (Err why) (of_block m n f)
 refuses f m n why e = ap Err (refused_by m n why e) ∙ sym (ap (of f) (no_block m n why e))
+
+-- the same of an answer that was made an `Option`
+pub kept : (m : Meaning) (n : ℕ) (r : Result Block Refusal) (b : Block) → Some b ≡ result_ok r → outcome r ≡ of_block m n (λ x. x) → Ok b ≡ of_block m n (λ x. x)
+kept m n (Ok a) b s e = let same : b ≡ a = cc in ap Ok same ∙ e
+kept m n (Err why) b s e = let z : ◌≡◌ {A = ℕ} 0 1 = cc in let no : ⊥ = omega arith in elim no [ ]
+
+pub dropped : (m : Meaning) (n : ℕ) (r : Result Block Refusal) → None ≡ result_ok r → outcome r ≡ of_block m n (λ x. x) → slice_get (all_blocks m) n ≡ None
+dropped m n (Ok a) s e = let z : ◌≡◌ {A = ℕ} 0 1 = cc in let no : ⊥ = omega arith in elim no [ ]
+dropped m n (Err why) s e = no_block m n (told why) e

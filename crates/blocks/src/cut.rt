@@ -1,12 +1,10 @@
 // A level as it is cut into blocks.
-ghost use Rattle.std.specs.Prelude.{◌≡◌, ◌<◌};
+ghost use Rattle.std.specs.Prelude.{◌≡◌};
 ghost use Rattle.blocks.specs.Cuts.{cut_of};
-ghost use Rattle.numbers.specs.Counts.{blocks_along};
 ghost use Rattle.numbers.specs.Wholes.{optional};
 ghost use Rattle.schemes.specs.Meanings.{block_size};
 ghost use Rattle.std.specs.List.{slice_get};
 
-use numbers::counts::compute_block_count;
 use schemes::level::Level;
 use schemes::scheme::Scheme;
 
@@ -18,16 +16,6 @@ pub(crate) struct Cut {
     pub(crate) down: usize,
 }
 
-fn blocks_along(side: usize, block: usize) -> usize
-    requires { 0 < block }
-    ensures { result ≡ blocks_along side block }
-{
-    match compute_block_count(side, block) {
-        Ok(count) => count,
-        Err(_) => unreachable(),
-    }
-}
-
 // The level at a position, and nothing past the last.
 pub(crate) fn cut_level<S: Scheme>(scheme: &S, position: usize) -> Option<Cut>
     ensures { result ≡ optional (cut_of (block_size (S.Scheme.meaning scheme.now))) (slice_get (S.Scheme.meaning scheme.now).levels position) }
@@ -36,7 +24,7 @@ pub(crate) fn cut_level<S: Scheme>(scheme: &S, position: usize) -> Option<Cut>
     let size = scheme.block_size();
     Some(Cut {
         level,
-        across: blocks_along(level.width, size.0),
-        down: blocks_along(level.height, size.1),
+        across: size.0.blocks_along(level.width),
+        down: size.1.blocks_along(level.height),
     })
 }

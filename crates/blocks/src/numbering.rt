@@ -1,11 +1,12 @@
 // Blocks by number, and numbers of blocks: they rise by level, then row, then column.
-ghost use Rattle.std.specs.Prelude.{◌≡◌, ◌≤◌, length};
-ghost use Rattle.blocks.specs.Numbering.{Numbered, blocks_before, number_at, of_block};
+ghost use Rattle.std.specs.Prelude.{◌≡◌};
+ghost use Rattle.blocks.specs.Numbering.{Numbered, number_at, of_block};
 ghost use Rattle.numbers.specs.Refusals.{outcome};
 
 use crate::block::Block;
 use crate::cut::cut_level;
 use numbers::refusal::{Module, Reason, Refusal};
+use schemes::chunk_count::count_blocks;
 use schemes::scheme::Scheme;
 
 const NO_SUCH_BLOCK: Refusal = Refusal {
@@ -14,9 +15,10 @@ const NO_SUCH_BLOCK: Refusal = Refusal {
     place: 0,
 };
 
-// One pass over the levels: each that does not hold the number takes its blocks off it.
-fn walk_to_block<S: Scheme>(scheme: &S, number: usize) -> Result<Block, Refusal>
-    ensures { outcome result ≡ of_block (S.Scheme.meaning scheme.now) number (λ b. b) }
+// The block with a number. One pass over the levels: each that does not hold the number takes its blocks off it.
+pub fn find_block<S: Scheme>(scheme: &S, number: usize) -> Result<Block, Refusal>
+    ensures answer { outcome result ≡ of_block (S.Scheme.meaning scheme.now) number (λ b. b) }
+    ensures law { Numbered (S.Scheme.meaning scheme.now) }
 {
     let mut rest = number;
     for position in 0..scheme.level_count() {
@@ -36,27 +38,6 @@ fn walk_to_block<S: Scheme>(scheme: &S, number: usize) -> Result<Block, Refusal>
     Err(NO_SUCH_BLOCK)
 }
 
-// The block with a number.
-pub fn find_block<S: Scheme>(scheme: &S, number: usize) -> Result<Block, Refusal>
-    ensures answer { outcome result ≡ of_block (S.Scheme.meaning scheme.now) number (λ b. b) }
-    ensures law { Numbered (S.Scheme.meaning scheme.now) }
-{
-    walk_to_block(scheme, number)
-}
-
-fn blocks_before<S: Scheme>(scheme: &S, position: usize) -> usize
-    requires { position ≤ length (S.Scheme.meaning scheme.now).levels }
-    ensures { result ≡ blocks_before (S.Scheme.meaning scheme.now) position }
-{
-    let mut total = 0;
-    for earlier in 0..position {
-        if let Some(cut) = cut_level(scheme, earlier) {
-            total += cut.across * cut.down;
-        }
-    }
-    total
-}
-
 // The number of the block in this row and column of the level at a position.
 pub fn number_of_block<S: Scheme>(
     scheme: &S,
@@ -66,11 +47,10 @@ pub fn number_of_block<S: Scheme>(
 ) -> Result<usize, Refusal>
     ensures { outcome result ≡ number_at (S.Scheme.meaning scheme.now) position row column }
 {
-    let Some(cut) = cut_level(scheme, position) else {
-        return Err(NO_SUCH_BLOCK);
-    };
+    let cut = cut_level(scheme, position).ok_or(NO_SUCH_BLOCK)?;
     if row < cut.down && column < cut.across {
-        Ok(blocks_before(scheme, position) + (row * cut.across + column))
+        let before = count_blocks(scheme, scheme.block_size(), position);
+        Ok(before + (row * cut.across + column))
     } else {
         Err(NO_SUCH_BLOCK)
     }

@@ -41,19 +41,10 @@ pub fn ordered_block<S: Scheme>(
     ensures answer { result ≡ slice_get (ordered_blocks line_order (S.Scheme.meaning scheme.now)) index }
     ensures all { OrdersAll line_order (S.Scheme.meaning scheme.now) }
 {
-    let Ok(risen) = find_block(scheme, index) else {
-        return None;
-    };
-    let Some(cut) = cut_level(scheme, risen.position) else {
-        return None;
-    };
+    let risen = find_block(scheme, index).ok()?;
+    let cut = cut_level(scheme, risen.position)?;
     let row = turned_row(line_order, cut.down, risen.row);
-    let block = Block {
-        position: risen.position,
-        level: risen.level,
-        row,
-        column: risen.column,
-    };
+    let block = Block { row, ..risen };
     let number = moved(index, risen.row, row, cut.across);
     let location = block.tile_coordinates();
     let size = bounds(scheme, block).size;

@@ -13,6 +13,7 @@ use crate::tile::TileCoordinates;
 use numbers::refusal::Refusal;
 use numbers::vec2::Vec2;
 use schemes::scheme::Scheme;
+use schemes::side::Side;
 
 impl Block {
     // Column and row, and the level's pair.
@@ -32,10 +33,8 @@ pub(crate) fn bounds<S: Scheme>(scheme: &S, block: Block) -> IntegerBounds
     ensures { result ≡ bounds_of (block_size (S.Scheme.meaning scheme.now)) block }
 {
     let max = Vec2(block.level.width, block.level.height);
-    match block
-        .tile_coordinates()
-        .to_data_indices(scheme.block_size(), max)
-    {
+    let size = Side::pixels_of(scheme.block_size());
+    match block.tile_coordinates().to_data_indices(size, max) {
         Ok(bounds) => bounds,
         Err(_) => unreachable(),
     }

@@ -1,6 +1,6 @@
 // The pixels of a tile by its indices, in a level or in a window.
 ghost use Rattle.std.specs.Prelude.{◌≡◌};
-ghost use Rattle.blocks.specs.Tiles.{absolute_indices, data_indices};
+ghost use Rattle.blocks.specs.Tiles.{absolute_indices, data_indices, with_origin};
 ghost use Rattle.numbers.specs.Refusals.{outcome};
 
 use crate::bounds::IntegerBounds;
@@ -9,8 +9,6 @@ use numbers::counts::calculate_block_position_and_size;
 use numbers::refusal::{Module, Reason, Refusal};
 use numbers::vec2::Vec2;
 use numbers::whole::Whole;
-
-const LARGEST_POSITION: usize = 2147483647;
 
 const OUTSIDE: Refusal = Refusal {
     reason: Reason::NoSuchTile,
@@ -24,6 +22,19 @@ const TOO_LARGE: Refusal = Refusal {
     place: 0,
 };
 
+impl IntegerBounds {
+    // In the plane in which the bounds' corner (0, 0) lies at the origin.
+    pub fn with_origin(self, origin: Vec2<i32>) -> Result<IntegerBounds, Refusal>
+        ensures { outcome result ≡ with_origin origin self }
+    {
+        let position = self.position.sum(origin).ok_or(TOO_LARGE)?;
+        Ok(IntegerBounds {
+            position,
+            size: self.size,
+        })
+    }
+}
+
 impl TileCoordinates {
     // Inside an image of this size. The level is not looked at: the image is the level's.
     pub fn to_data_indices(
@@ -33,25 +44,19 @@ impl TileCoordinates {
     ) -> Result<IntegerBounds, Refusal>
         ensures { outcome result ≡ data_indices tile_size max self.now }
     {
-        let Ok((x, width)) = calculate_block_position_and_size(
+        let (x, width) = calculate_block_position_and_size(
             max.0,
             tile_size.0,
             self.tile_index.0,
-        ) else {
-            return Err(OUTSIDE);
-        };
-        let Ok((y, height)) = calculate_block_position_and_size(
+        ).map_err(|_| OUTSIDE)?;
+        let (y, height) = calculate_block_position_and_size(
             max.1,
             tile_size.1,
             self.tile_index.1,
-        ) else {
-            return Err(OUTSIDE);
-        };
-        if x > LARGEST_POSITION || y > LARGEST_POSITION {
-            return Err(TOO_LARGE);
-        }
+        ).map_err(|_| OUTSIDE)?;
+        let position = Vec2::<i32>::try_from(Vec2(x, y)).map_err(|_| TOO_LARGE)?;
         Ok(IntegerBounds {
-            position: Vec2(x as i32, y as i32),
+            position,
             size: Vec2(width, height),
         })
     }
@@ -65,12 +70,6 @@ impl TileCoordinates {
         ensures { outcome result ≡ absolute_indices tile_size data_window self.now }
     {
         let data = self.to_data_indices(tile_size, data_window.size)?;
-        match data.position.sum(data_window.position) {
-            Some(position) => Ok(IntegerBounds {
-                position,
-                size: data.size,
-            }),
-            None => Err(TOO_LARGE),
-        }
+        data.with_origin(data_window.position)
     }
 }

@@ -7,14 +7,6 @@ use numbers::logs::{ceil_log_2, floor_log_2};
 use numbers::refusal::{Module, Reason, Refusal};
 use numbers::rounding::RoundingMode;
 
-fn refused(reason: Reason, module: Module) -> Refusal {
-    Refusal {
-        reason,
-        module,
-        place: 0,
-    }
-}
-
 #[test]
 fn logarithms(rt: HostRuntime) {
     for (n, floor, ceil) in [
@@ -34,7 +26,7 @@ fn logarithms(rt: HostRuntime) {
 
 #[test]
 fn quotients(rt: HostRuntime) {
-    let none = refused(Reason::NumberOutOfRange, Module::Numbers);
+    let none = Refusal::new(Reason::NumberOutOfRange, Module::Numbers);
     assert_eq!(rt; RoundingMode::Down.divide(7usize, 2), Ok(3));
     assert_eq!(rt; RoundingMode::Up.divide(7usize, 2), Ok(4));
     assert_eq!(rt; RoundingMode::Up.divide(7usize, 0), Err(none));
@@ -49,7 +41,7 @@ fn quotients(rt: HostRuntime) {
 
 #[test]
 fn blocks_of_a_side(rt: HostRuntime) {
-    let past = refused(Reason::PositionPastTotal, Module::Sides);
+    let past = Refusal::new(Reason::PositionPastTotal, Module::Sides);
     assert_eq!(rt; compute_block_count(33, 32), Ok(2));
     assert_eq!(rt; compute_block_count(0, 5), Ok(0));
     assert_eq!(rt;
@@ -58,7 +50,7 @@ fn blocks_of_a_side(rt: HostRuntime) {
     );
     assert_eq!(rt;
         compute_block_count(5, 0),
-        Err(refused(Reason::NumberOutOfRange, Module::Numbers))
+        Err(Refusal::new(Reason::NumberOutOfRange, Module::Numbers))
     );
     assert_eq!(rt; calculate_block_size(5, 2, 4), Ok(1));
     assert_eq!(rt; calculate_block_size(5, 18446744073709551615, 1), Ok(4));
@@ -86,7 +78,7 @@ fn levels_of_a_side(rt: HostRuntime) {
     }
     assert_eq!(rt;
         compute_level_count(RoundingMode::Up, 4294967296),
-        Err(refused(Reason::NumberOutOfRange, Module::Sides))
+        Err(Refusal::new(Reason::NumberOutOfRange, Module::Sides))
     );
     for (side, level, down, up) in [
         (5, 1, 2, 3),
@@ -102,6 +94,6 @@ fn levels_of_a_side(rt: HostRuntime) {
     }
     assert_eq!(rt;
         compute_level_size(RoundingMode::Down, 5, 64),
-        Err(refused(Reason::LevelIndexTooLarge, Module::Sides))
+        Err(Refusal::new(Reason::LevelIndexTooLarge, Module::Sides))
     );
 }

@@ -1,20 +1,12 @@
 -- The scheme that a description asks for, where its sides are sides.
 use Rattle.std.specs.Prelude.{ℕ, Bool, cond, ◌&&◌, Some, None, Option}
-use Rattle.numbers.specs.declared.vec2.Vec2.{Vec2}
 use Rattle.schemes.specs.Meanings.{Meaning}
-use Rattle.schemes.specs.declared.side.Side.{Side}
 use Rattle.layout.specs.Acceptance.{cut_into, good_tile, meaning_of}
 use Rattle.layout.specs.Windows.{good_side}
 use Rattle.layout.specs.declared.attribute.BlockDescription.{BlockDescription}
 use Rattle.layout.specs.declared.attribute.BlockDescription.TheVariants.{ScanLines, Tiles}
 use Rattle.layout.specs.declared.attribute.TileDescription.{TileDescription}
 use Rattle.layout.specs.declared.description.LayerDescription.{LayerDescription}
-
-abbrev pub pixels_of_both : Vec2 Side → Vec2 ℕ
-pixels_of_both size = record { 0 = size.0.pixels; 1 = size.1.pixels }
-
-abbrev pub both_sides : Vec2 ℕ → Option (Vec2 ℕ)
-both_sides size = cond (good_side size.0 && good_side size.1) (Some size) None
 
 -- whether the blocks have sides in range
 abbrev pub good_blocks : BlockDescription → ℕ → Bool

@@ -4,4 +4,4 @@ use Rattle.layout.specs.Acceptance.{Laid}
 use Rattle.layout.specs.declared.layer.Layer.{Layer}
 
 abbrev pub laid : Layer → Laid
-laid l = record { position = l.position; order = l.line_order; scheme = any_meaning l.scheme; bytes = l.bytes_per_pixel; chunks = l.chunk_count }
+laid l = record { position = l.positioned.position; order = l.line_order; scheme = any_meaning l.positioned.scheme; bytes = l.bytes_per_pixel; chunks = l.chunk_count }

@@ -23,7 +23,7 @@ impl ChannelDescription {
     fn has_good_sampling(&self) -> bool
         ensures { result ≡ good_sampling self.now }
     {
-        Side::new(self.sampling.0).is_some() && Side::new(self.sampling.1).is_some()
+        Side::both(self.sampling).is_some()
     }
 }
 

@@ -1,7 +1,7 @@
 // A layer as it is described, and the rules on its window, its blocks and the number of its channels.
 ghost use Rattle.std.specs.Prelude.{◌≡◌, not, ◌&&◌};
 ghost use Rattle.layout.specs.Acceptance.{broken_rule, good_tile, is_tiled, is_unspecified};
-ghost use Rattle.layout.specs.Asked.{both_sides, pixels_of_both, scheme_of, tile_scheme_of};
+ghost use Rattle.layout.specs.Asked.{scheme_of, tile_scheme_of};
 ghost use Rattle.layout.specs.Windows.{good_lines};
 ghost use Rattle.numbers.specs.Refusals.{number_of};
 ghost use Rattle.numbers.specs.Wholes.{optional};
@@ -14,13 +14,14 @@ use blocks::line_order::LineOrder;
 use numbers::refusal::Reason;
 use numbers::vec2::Vec2;
 use schemes::any_scheme::AnyScheme;
-use schemes::mip::Mip;
-use schemes::rip::Rip;
+use schemes::mip::MipLevels;
+use schemes::rip::RipLevels;
 use schemes::scan_lines::ScanLines;
 use schemes::side::Side;
-use schemes::single::Single;
+use schemes::single::OneLevel;
+use schemes::tiles::Tiles;
 
-const MOST_CHANNELS: usize = 1024;
+pub const MOST_CHANNELS: usize = 1024;
 
 // All of a description but its row of channels, which stays the caller's.
 #[derive(Clone, Copy)]
@@ -48,44 +49,34 @@ fn good_tile(blocks: BlockDescription) -> bool
 {
     match blocks {
         BlockDescription::ScanLines => true,
-        BlockDescription::Tiles(tiles) => {
-            Side::new(tiles.tile_size.0).is_some() && Side::new(tiles.tile_size.1).is_some()
-        }
+        BlockDescription::Tiles(tiles) => Side::both(tiles.tile_size).is_some(),
     }
-}
-
-// Two sides, where both are.
-fn sides(size: Vec2<usize>) -> Option<Vec2<Side>>
-    ensures { optional pixels_of_both result ≡ both_sides size }
-{
-    let Some(width) = Side::new(size.0) else {
-        return None;
-    };
-    let Some(height) = Side::new(size.1) else {
-        return None;
-    };
-    Some(Vec2(width, height))
 }
 
 fn tile_scheme(size: Vec2<Side>, tiles: TileDescription) -> Option<AnyScheme>
     ensures { optional any_meaning result ≡ tile_scheme_of size.0.pixels size.1.pixels tiles }
 {
-    let Some(tile_size) = sides(tiles.tile_size) else {
-        return None;
-    };
+    let tile_size = Side::both(tiles.tile_size)?;
     let rounding_mode = tiles.rounding_mode;
     Some(match tiles.level_mode {
-        LevelMode::Singular => AnyScheme::Single(Single { size, tile_size }),
-        LevelMode::MipMap => AnyScheme::Mip(Mip {
-            size,
-            tile_size,
-            rounding_mode,
-        }),
-        LevelMode::RipMap => AnyScheme::Rip(Rip {
-            size,
-            tile_size,
-            rounding_mode,
-        }),
+        LevelMode::Singular => {
+            let levels = OneLevel { size };
+            AnyScheme::Single(Tiles { levels, tile_size })
+        }
+        LevelMode::MipMap => {
+            let levels = MipLevels {
+                size,
+                rounding_mode,
+            };
+            AnyScheme::Mip(Tiles { levels, tile_size })
+        }
+        LevelMode::RipMap => {
+            let levels = RipLevels {
+                size,
+                rounding_mode,
+            };
+            AnyScheme::Rip(Tiles { levels, tile_size })
+        }
     })
 }
 
@@ -125,14 +116,12 @@ impl LayerDescription {
     pub(crate) fn scheme(&self) -> Option<AnyScheme>
         ensures { optional any_meaning result ≡ scheme_of self.now }
     {
-        let Some(size) = sides(self.layer_size) else {
-            return None;
-        };
+        let size = Side::both(self.layer_size)?;
         match self.blocks {
-            BlockDescription::ScanLines => match Side::new(self.lines_per_block) {
-                Some(lines) => Some(AnyScheme::ScanLines(ScanLines { size, lines })),
-                None => None,
-            },
+            BlockDescription::ScanLines => {
+                let lines = Side::new(self.lines_per_block)?;
+                Some(AnyScheme::ScanLines(ScanLines { size, lines }))
+            }
             BlockDescription::Tiles(tiles) => tile_scheme(size, tiles),
         }
     }

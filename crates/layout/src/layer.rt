@@ -5,7 +5,7 @@ ghost use Rattle.schemes.specs.Schemes.{any_meaning};
 ghost use Rattle.schemes.specs.Windows.{Placed};
 
 use blocks::line_order::LineOrder;
-use numbers::vec2::Vec2;
+use prefixes::positioned::Positioned;
 use schemes::any_scheme::AnyScheme;
 
 mod acceptance;
@@ -16,16 +16,15 @@ mod totals;
 
 #[derive(Clone, Copy)]
 pub struct Layer {
-    position: Vec2<i32>,
+    positioned: Positioned<AnyScheme>,
     line_order: LineOrder,
-    scheme: AnyScheme,
     // As described, also where the layer is cut into tiles.
     lines_per_block: usize,
     // Over all channels.
     bytes_per_pixel: usize,
     chunk_count: usize,
-    ghost placed: { Placed position (any_meaning scheme) },
+    ghost placed: { Placed positioned.position (any_meaning positioned.scheme) },
     ghost lined: { (1 ≤ lines_per_block) × (lines_per_block ≤ 256) },
     ghost sampled: { 1 ≤ bytes_per_pixel },
-    ghost counted: { chunk_count ≡ chunks_in (any_meaning scheme) },
+    ghost counted: { chunk_count ≡ chunks_in (any_meaning positioned.scheme) },
 }

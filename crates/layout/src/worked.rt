@@ -53,10 +53,8 @@ fn chunks(description: LayerDescription) -> Option<usize>
         sample_type: SampleType::F16,
         sampling: Vec2(1, 1),
     };
-    match Layer::new(description, &[channel]) {
-        Ok(layer) => Some(layer.chunk_count()),
-        Err(_) => None,
-    }
+    let layer = Layer::new(description, &[channel]).ok()?;
+    Some(layer.chunk_count())
 }
 
 // Lays the worked layers out: five modes of tiles, and lines. Its contract states what they come to, with the blocks,

@@ -8,19 +8,13 @@ use crate::rounding::RoundingMode;
 
 const LARGEST_COUNTED_SIDE: usize = 4294967295;
 
-const LARGEST_LEVEL_INDEX: usize = 63;
+pub const LARGEST_LEVEL_INDEX: usize = 63;
 
-fn refusal(reason: Reason) -> Refusal
-    ensures { result ≡ record { reason = reason; «module» = Sides; place = 0 } }
-{
-    Refusal {
-        reason,
-        module: Module::Sides,
-        place: 0,
-    }
-}
-
-ghost use Rattle.numbers.specs.declared.refusal.Module.TheVariants.{Sides};
+const PAST_TOTAL: Refusal = Refusal {
+    reason: Reason::PositionPastTotal,
+    module: Module::Sides,
+    place: 0,
+};
 
 // Rounded up, since what is left past the last whole block is a block too.
 pub fn compute_block_count(full_res: usize, tile_size: usize) -> Result<usize, Refusal>
@@ -40,7 +34,7 @@ pub fn calculate_block_size(
     if block_position < total_size {
         Ok(block_size.min(total_size - block_position))
     } else {
-        Err(refusal(Reason::PositionPastTotal))
+        Err(PAST_TOTAL)
     }
 }
 
@@ -52,13 +46,9 @@ pub fn calculate_block_position_and_size(
 ) -> Result<(usize, usize), Refusal>
     ensures { outcome result ≡ block_position_and_size total_size block_size block_index }
 {
-    match block_size.checked_mul(block_index) {
-        Some(block_position) => {
-            let size = calculate_block_size(total_size, block_size, block_position)?;
-            Ok((block_position, size))
-        }
-        None => Err(refusal(Reason::PositionPastTotal)),
-    }
+    let block_position = block_size.checked_mul(block_index).ok_or(PAST_TOTAL)?;
+    let size = calculate_block_size(total_size, block_size, block_position)?;
+    Ok((block_position, size))
 }
 
 pub fn compute_level_count(round: RoundingMode, full_res: usize) -> Result<usize, Refusal>
@@ -67,7 +57,7 @@ pub fn compute_level_count(round: RoundingMode, full_res: usize) -> Result<usize
     if full_res <= LARGEST_COUNTED_SIDE {
         Ok(round.log2(full_res as u32) as usize + 1)
     } else {
-        Err(refusal(Reason::NumberOutOfRange))
+        Err(Refusal::new(Reason::NumberOutOfRange, Module::Sides))
     }
 }
 
@@ -82,6 +72,6 @@ pub fn compute_level_size(
         let size = round.divide(full_res, 1 << level_index)?;
         Ok(size.max(1))
     } else {
-        Err(refusal(Reason::LevelIndexTooLarge))
+        Err(Refusal::new(Reason::LevelIndexTooLarge, Module::Sides))
     }
 }

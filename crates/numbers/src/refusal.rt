@@ -66,6 +66,17 @@ pub struct Refusal {
 }
 
 impl Refusal {
+    // About no place in particular.
+    pub fn new(reason: Reason, module: Module) -> Refusal
+        ensures { result ≡ record { reason = reason; «module» = «module»; place = 0 } }
+    {
+        Refusal {
+            reason,
+            module,
+            place: 0,
+        }
+    }
+
     pub fn number(self) -> u8
         ensures { result ≡ number_of self.reason }
     {

@@ -29,13 +29,7 @@ impl RoundingMode {
         ensures value { outcome_as T.Whole.number result ≡ divided self (T.Whole.number dividend) (T.Whole.number divisor) }
         ensures exact { AnswersRounded T.Whole.number self dividend divisor result }
     {
-        match dividend.quotient(divisor, self) {
-            Some(quotient) => Ok(quotient),
-            None => Err(Refusal {
-                reason: Reason::NumberOutOfRange,
-                module: Module::Numbers,
-                place: 0,
-            }),
-        }
+        let quotient = dividend.quotient(divisor, self);
+        quotient.ok_or(Refusal::new(Reason::NumberOutOfRange, Module::Numbers))
     }
 }

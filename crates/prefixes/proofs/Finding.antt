@@ -23,7 +23,8 @@ use Rattle.blocks.proofs.Numbers.{numbered}
 use Rattle.prefixes.specs.Coordinates.{all_coordinates, coordinates_by, coordinates_of, fits_fields, signed, small}
 use Rattle.prefixes.specs.Laws.{BlocksKnown, HasCoordinates}
 use Rattle.prefixes.specs.Lookup.{looked_up, same_coordinates}
-use Rattle.prefixes.specs.Searching.{and_then, answer, line_search, natural, naturals, row_of, search_for, tile_search, under_lines, under_tiles}
+use Rattle.numbers.specs.Pairs.{natural, naturals}
+use Rattle.prefixes.specs.Searching.{and_then, answer, line_search, row_of, search_for, tile_search, under_lines, under_tiles}
 use Rattle.prefixes.specs.declared.coordinates.BlockCoordinates.{BlockCoordinates}
 use Rattle.prefixes.specs.declared.coordinates.BlockCoordinates.TheVariants.{Line, Tile}
 use Rattle.prefixes.proofs.Fitting.{small_block, small_signed}

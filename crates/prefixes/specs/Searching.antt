@@ -1,5 +1,6 @@
 -- What the lookups compute, step by step. That it is the block asked for is a law of its own.
-use Rattle.std.specs.Prelude.{ℕ, ◌/◌, ◌%◌, cond, ℤ, pos, negsuc, ◌-ℤ◌, Some, None, Ok, Err, Option, Result, ◌==◌}
+use Rattle.std.specs.Prelude.{ℕ, ◌/◌, ◌%◌, cond, ℤ, ◌-ℤ◌, Some, None, Ok, Err, Option, Result, ◌==◌}
+use Rattle.numbers.specs.Pairs.{natural, naturals}
 use Rattle.numbers.specs.Refusals.{Told}
 use Rattle.numbers.specs.declared.vec2.Vec2.{Vec2}
 use Rattle.schemes.specs.Meanings.{Meaning, position_of}
@@ -8,20 +9,6 @@ use Rattle.schemes.specs.declared.level.Naming.TheVariants.{Line, Tile}
 use Rattle.blocks.specs.Numbering.{number_at}
 use Rattle.prefixes.specs.declared.coordinates.BlockCoordinates.{BlockCoordinates}
 use Rattle.prefixes.specs.declared.coordinates.BlockCoordinates.TheVariants as coordinates
-
--- a number that is not negative
-abbrev pub natural : ℤ → Option ℕ
-natural (pos n) = Some n
-natural (negsuc n) = None
-
-abbrev pub naturals_from : Option ℕ → Option ℕ → Option (Vec2 ℕ)
-naturals_from (Some x) (Some y) = Some (record { 0 = x; 1 = y })
-naturals_from (Some x) None = None
-naturals_from None (Some y) = None
-naturals_from None None = None
-
-abbrev pub naturals : Vec2 ℤ → Option (Vec2 ℕ)
-naturals p = naturals_from (natural p.0) (natural p.1)
 
 abbrev pub and_then : {A B : Type 0} → Option A → (A → Option B) → Option B
 and_then None f = None

@@ -5,5 +5,6 @@ pub mod block_prefix;
 pub mod coordinates;
 pub mod lookup;
 pub mod naming;
+pub mod positioned;
 pub mod prefix;
 pub mod transfer;

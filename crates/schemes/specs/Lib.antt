@@ -9,5 +9,6 @@ pub mod Blocks
 -- below: lemmas that each scheme keeps the rules, which nobody has to believe; they stand here since a ghost member cites specs/
 pub mod Chosen
 pub mod Lists
+pub mod Tiled
 pub mod Halves
 pub mod Rows

@@ -1,6 +1,6 @@
 -- The lists of mip and rip levels: what stands where, that they are lawful, and that they end at one pixel.
-use Rattle.std.specs.Prelude.{◌≡◌, ℕ, zero, suc, ◌+◌, ◌*◌, ◌/◌, ◌%◌, ◌<◌, ◌≤◌, max, ◌⊎◌, map, length, Some, sum_by, refl}
-use Rattle.std.proofs.Common.{sym, ◌∙◌, ap, subst, inl, inr, mul-le-mul, mul-le-mul_left, div-add-mod', mod-lt, div-lt_iff_lt-mul, add-mul, one-mul, arith}
+use Rattle.std.specs.Prelude.{◌≡◌, ℕ, zero, suc, ◌+◌, ◌-◌, ◌*◌, ◌/◌, ◌%◌, ◌<◌, ◌≤◌, max, ◌⊎◌, map, length, Some, sum_by, refl}
+use Rattle.std.proofs.Common.{sym, ◌∙◌, ap, subst, inl, inr, mul-le-mul, mul-le-mul_left, div-add-mod', mod-lt, div-lt_iff_lt-mul, add-mul, one-mul, arith, rules}
 use Rattle.std.proofs.Math.Nat.{le-max_left, le-max_right}
 use Rattle.std.specs.List.{slice_get, range_with_len}
 use Rattle.std.proofs.lemmas.List.FromFn.{length-map-range_with_len}
@@ -11,13 +11,16 @@ use Rattle.numbers.specs.Counts.{side_at, levels_of}
 use Rattle.numbers.specs.declared.rounding.RoundingMode.{RoundingMode}
 use Rattle.numbers.proofs.Powers.{log_covers, log_before}
 use Rattle.schemes.specs.Sides.{IsSide}
-use Rattle.schemes.specs.Meanings.{Lawful, area, OneByOne}
+use Rattle.schemes.specs.Meanings.{EndsAtOnePixel, LawfulLevels, OneByOne, area}
 use Rattle.schemes.specs.declared.level.Level.{Level}
-use Rattle.schemes.specs.declared.level.Naming.TheVariants.{Line, Tile}
 use Rattle.schemes.specs.Rows.{grid_at, grid_length, grid_sum, nth_some, row_at}
-use Rattle.schemes.specs.Levels.{level_at, mip_levels, rip_levels}
-use Rattle.schemes.specs.Schemes.{in_tiles}
+use Rattle.schemes.specs.Levels.{level_at, mip_levels, one_level, rip_levels}
 use Rattle.schemes.specs.Halves.{size_one, size_two, size_side, side_levels, covers_more, sum_halves}
+
+-- one
+
+pub one_level_lawful : (w h : ℕ) → IsSide w → IsSide h → LawfulLevels (one_level w h)
+one_level_lawful w h sw sh = search rules
 
 -- mip
 
@@ -46,10 +49,6 @@ mip_areas m w h a (suc n) s =
     let two = sum_by-cons (side_at m w) a (range_with_len (a + 1) n) in
     omega arith
 
--- tiles are not lines
-not_lines : {P : Type 0} → Tile ≡ Line → P
-not_lines e = let z : ◌≡◌ {A = ℕ} 0 1 = cc in let none : ⊥ = omega arith in elim none [ ]
-
 longer : (w h : ℕ) → IsSide w → IsSide h → max w h ≤ 2147483648
 longer w h s t = omega arith
 
@@ -57,14 +56,12 @@ longer w h s t = omega arith
 pub mip_low : (m : RoundingMode) (w h i : ℕ) → IsSide w → IsSide h → i < length (mip_levels m w h) → i ≤ 31
 mip_low m w h i sw sh l = omega (arith, mip_length m w h, side_levels m (max w h) (longer w h sw sh))
 
-pub mip_lawful : (m : RoundingMode) (w h : ℕ) (tw th : ℕ) → IsSide w → IsSide h → IsSide tw → IsSide th → Lawful (in_tiles tw th (mip_levels m w h))
-mip_lawful m w h tw th sw sh st su =
+pub mip_levels_lawful : (m : RoundingMode) (w h : ℕ) → IsSide w → IsSide h → LawfulLevels (mip_levels m w h)
+mip_levels_lawful m w h sw sh =
     let len = mip_length m w h in
     let n = levels_of m (max w h) in
     let few : n ≤ 32 = side_levels m (max w h) (longer w h sw sh) in
     record {
-      block_wide = st;
-      block_high = su;
       some = omega arith;
       few = omega arith;
       sides = λ i l e. subst (λ (x : Level). IsSide x.width × IsSide x.height) (mip_is m w h i l e).1 (size_side m w i sw, size_side m h i sh);
@@ -72,8 +69,6 @@ mip_lawful m w h tw th sw sh st su =
       distinct = λ i j l k e f a b.
           ap (λ (x : Level). x.pair.0) (mip_is m w h i l e).1 ∙ a ∙ sym (ap (λ (x : Level). x.pair.0) (mip_is m w h j k f).1);
       fits = omega (arith, mip_areas m w h 0 n sh, sum_halves m w n 32 0 (omega arith) (omega arith) few);
-      one_by_lines = λ e. not_lines e;
-      whole_lines = λ e. not_lines e;
     }
 
 pub mip_last : (m : RoundingMode) (w h : ℕ) → OneByOne (slice_get (mip_levels m w h) (log2 m (max w h)))
@@ -97,6 +92,16 @@ mip_earlier m w h i l one =
       | inl e ↦ let s : side_at m (max w h) i ≡ side_at m w i = ap (λ x. side_at m x i) e in omega arith
       | inr e ↦ let s : side_at m (max w h) i ≡ side_at m h i = ap (λ x. side_at m x i) e in omega arith
     ]
+
+pub mip_ends : (m : RoundingMode) (w h : ℕ) → EndsAtOnePixel (mip_levels m w h)
+mip_ends m w h =
+    let len = mip_length m w h in
+    let at : log2 m (max w h) ≡ length (mip_levels m w h) - 1 = omega arith in
+    record {
+      some = omega arith;
+      pixel = subst (λ (x : ℕ). OneByOne (slice_get (mip_levels m w h) x)) at (mip_last m w h);
+      earlier = λ i l one. mip_earlier m w h i (omega arith) one;
+    }
 
 -- rip
 
@@ -123,8 +128,8 @@ rip_is m w h i l e =
     let f : Some (level_at m w h (i % levels_of m w) (i / levels_of m w)) ≡ Some l = sym (rip_by m w h i n) ∙ e in
     (n, cc)
 
-pub rip_lawful : (m : RoundingMode) (w h : ℕ) (tw th : ℕ) → IsSide w → IsSide h → IsSide tw → IsSide th → Lawful (in_tiles tw th (rip_levels m w h))
-rip_lawful m w h tw th sw sh st su =
+pub rip_levels_lawful : (m : RoundingMode) (w h : ℕ) → IsSide w → IsSide h → LawfulLevels (rip_levels m w h)
+rip_levels_lawful m w h sw sh =
     let len = rip_length m w h in
     let nx = levels_of m w in
     let ny = levels_of m h in
@@ -137,8 +142,6 @@ rip_lawful m w h tw th sw sh st su =
     let total : sum_by area (rip_levels m w h) ≡ sum_by (side_at m w) (range_with_len 0 nx) * sum_by (side_at m h) (range_with_len 0 ny) =
     grid_sum area (level_at m w h) (side_at m w) (side_at m h) (λ x y. refl) nx 0 ny in
     record {
-      block_wide = st;
-      block_high = su;
       some = omega arith;
       few = omega arith;
       sides = λ i l e. subst (λ (x : Level). IsSide x.width × IsSide x.height) (rip_is m w h i l e).1 (size_side m w (i % nx) sw, size_side m h (i / nx) sh);
@@ -148,8 +151,6 @@ rip_lawful m w h tw th sw sh st su =
           let q : i / nx ≡ j / nx = ap (λ (x : Level). x.pair.1) (rip_is m w h i l e).1 ∙ b ∙ sym (ap (λ (x : Level). x.pair.1) (rip_is m w h j k f).1) in
           sym (div-add-mod' i nx) ∙ ap (λ n. n * nx + i % nx) q ∙ ap (λ n. j / nx * nx + n) p ∙ div-add-mod' j nx;
       fits = omega (arith, mul-le-mul sx sy);
-      one_by_lines = λ e. not_lines e;
-      whole_lines = λ e. not_lines e;
     }
 
 pub rip_last : (m : RoundingMode) (w h : ℕ) → OneByOne (slice_get (rip_levels m w h) (log2 m h * levels_of m w + log2 m w))
@@ -179,3 +180,15 @@ rip_earlier m w h i l one =
                 omega (arith, size_two m w x (log_before m w x (omega arith)))
           ]
     ]
+
+pub rip_ends : (m : RoundingMode) (w h : ℕ) → EndsAtOnePixel (rip_levels m w h)
+rip_ends m w h =
+    let nx = levels_of m w in
+    let k = log2 m h in
+    let len = rip_length m w h in
+    let at : k * nx + log2 m w ≡ length (rip_levels m w h) - 1 = omega (arith, add-mul k 1 nx, one-mul nx) in
+    record {
+      some = omega (arith, add-mul k 1 nx, one-mul nx);
+      pixel = subst (λ (x : ℕ). OneByOne (slice_get (rip_levels m w h) x)) at (rip_last m w h);
+      earlier = λ i l one. rip_earlier m w h i (omega (arith, add-mul k 1 nx, one-mul nx)) one;
+    }

@@ -1,5 +1,5 @@
 -- What a level scheme means, and the rules that its meaning keeps.
-use Rattle.std.specs.Prelude.{◌≡◌, ℕ, ◌+◌, ◌*◌, ◌≤◌, Bool, cond, ◌&&◌, List, [], ◌∷◌, length, Some, None, sum_by, Option, ◌==◌}
+use Rattle.std.specs.Prelude.{◌≡◌, ℕ, ◌+◌, ◌-◌, ◌*◌, ◌<◌, ◌≤◌, Bool, cond, ◌&&◌, List, [], ◌∷◌, length, Some, None, sum_by, Option, ◌==◌}
 use Rattle.std.specs.List.{slice_get}
 use Rattle.numbers.specs.declared.vec2.Vec2.{Vec2}
 use Rattle.schemes.specs.Sides.{IsSide}
@@ -40,6 +40,15 @@ DistinctPairs levels = (i j : ℕ) (l k : Level) → slice_get levels i ≡ Some
 abbrev pub WholeLines : ℕ → Level → Type 0
 WholeLines block_width l = (l.pair.0 ≡ 0) × (l.pair.1 ≡ 0) × (l.width ≡ block_width)
 
+-- the rules of every list of levels
+pub record LawfulLevels (levels : List Level) : Type 0 where
+  pub some : 1 ≤ length levels
+  pub few : length levels ≤ 1024
+  pub sides : EachLevel HasSides levels
+  pub pairs : EachLevel LowPair levels
+  pub distinct : DistinctPairs levels
+  pub fits : sum_by area levels ≤ 18446744073709551615
+
 -- the rules of every scheme
 pub record Lawful (m : Meaning) : Type 0 where
   pub block_wide : IsSide m.block_width
@@ -71,3 +80,9 @@ position_of levels p = position_from 0 levels p
 abbrev pub OneByOne : Option Level → Type 0
 OneByOne (Some l) = (l.width ≡ 1) × (l.height ≡ 1)
 OneByOne None = ⊥
+
+-- the last level is one pixel, and no earlier one is
+pub record EndsAtOnePixel (levels : List Level) : Type 0 where
+  pub some : 1 ≤ length levels
+  pub pixel : OneByOne (slice_get levels (length levels - 1))
+  pub earlier : (i : ℕ) → i < length levels - 1 → OneByOne (slice_get levels i) → ⊥

@@ -7,6 +7,7 @@ use crate::mip::Mip;
 use crate::rip::Rip;
 use crate::scan_lines::ScanLines;
 use crate::scheme::Scheme;
+use crate::side::Side;
 use crate::single::Single;
 use numbers::vec2::Vec2;
 
@@ -32,7 +33,7 @@ impl Scheme for AnyScheme {
         }
     }
 
-    fn block_size(&self) -> Vec2<usize> {
+    fn block_size(&self) -> Vec2<Side> {
         match self {
             AnyScheme::ScanLines(s) => s.block_size(),
             AnyScheme::Single(s) => s.block_size(),

@@ -1,31 +1,28 @@
 // How many blocks, or chunks of a file, a layer is cut into.
-ghost use Rattle.std.specs.Prelude.{◌≡◌, ◌^◌, ◌<◌, sum_by};
+ghost use Rattle.std.specs.Prelude.{◌≡◌, ◌^◌, ◌<◌, sum_by, take};
 ghost use Rattle.schemes.specs.Blocks.{blocks_in, chunks_in};
+ghost use Rattle.schemes.specs.Making.{pixels_of_both};
 ghost use Rattle.schemes.specs.Meanings.{area};
 
-use crate::axis::blocks_along;
 use crate::level::Level;
 use crate::scheme::Scheme;
+use crate::side::Side;
 use numbers::vec2::Vec2;
 
 // The blocks of one level.
-fn level_block_count(level: Level, block: Vec2<usize>) -> usize
-    requires across { 0 < block.0 }
-    requires down { 0 < block.1 }
-    requires small { area level < 2 ^ 64 }
-    ensures { result ≡ blocks_in block level }
+fn level_block_count(level: Level, block: Vec2<Side>) -> usize
+    requires { area level < 2 ^ 64 }
+    ensures { result ≡ blocks_in (pixels_of_both block) level }
 {
-    blocks_along(level.width, block.0) * blocks_along(level.height, block.1)
+    block.0.blocks_along(level.width) * block.1.blocks_along(level.height)
 }
 
-// The blocks of this size that cut all levels of a scheme.
-pub(crate) fn count_blocks<S: Scheme>(scheme: &S, block: Vec2<usize>) -> usize
-    requires across { 0 < block.0 }
-    requires down { 0 < block.1 }
-    ensures { result ≡ sum_by (blocks_in block) (S.Scheme.meaning scheme.now).levels }
+// The blocks of this size that cut the first levels of a scheme, as many as are asked for and are there.
+pub fn count_blocks<S: Scheme>(scheme: &S, block: Vec2<Side>, levels: usize) -> usize
+    ensures { result ≡ sum_by (blocks_in (pixels_of_both block)) (take levels (S.Scheme.meaning scheme.now).levels) }
 {
     let mut total = 0;
-    for position in 0..scheme.level_count() {
+    for position in 0..levels.min(scheme.level_count()) {
         if let Some(level) = scheme.level(position) {
             total += level_block_count(level, block);
         }
@@ -37,5 +34,5 @@ pub fn compute_chunk_count<S: Scheme>(scheme: &S) -> usize
     ensures { result ≡ chunks_in (S.Scheme.meaning scheme.now) }
 {
     let block = scheme.block_size();
-    count_blocks(scheme, block)
+    count_blocks(scheme, block, scheme.level_count())
 }

@@ -11,8 +11,5 @@ pub fn find_level<S: Scheme>(scheme: &S, pair: Vec2<usize>) -> Option<Level>
     ensures value { result ≡ level_with (S.Scheme.meaning scheme.now).levels pair }
     ensures law { IsLevelWith (S.Scheme.meaning scheme.now).levels pair result }
 {
-    match scheme.position(pair) {
-        Some(position) => scheme.level(position),
-        None => None,
-    }
+    scheme.level(scheme.position(pair)?)
 }

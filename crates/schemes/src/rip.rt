@@ -1,47 +1,41 @@
-// Rip maps: tiles at levels that halve each side by itself, y levels outside and x levels inside.
-ghost use Rattle.schemes.specs.Schemes.{rip_meaning};
-ghost use Rattle.schemes.specs.Lists.{rip_lawful};
+// Rip maps: levels that halve each side by itself, y levels outside and x levels inside.
+ghost use Rattle.schemes.specs.Levels.{rip_levels};
+ghost use Rattle.schemes.specs.Lists.{rip_ends, rip_levels_lawful};
 
-use crate::axis::{level_count, level_size};
-use crate::level::{Level, Naming};
-use crate::scheme::Scheme;
-use crate::shrinking::Shrinking;
+use crate::level::Level;
+use crate::levels::{Halving, Levels};
 use crate::side::Side;
+use crate::tiles::Tiles;
 use numbers::rounding::RoundingMode;
 use numbers::vec2::Vec2;
 
 #[derive(Clone, Copy)]
-pub struct Rip {
+pub struct RipLevels {
     pub size: Vec2<Side>,
-    pub tile_size: Vec2<Side>,
     pub rounding_mode: RoundingMode,
 }
 
-impl Scheme for Rip {
-    ghost meaning = { rip_meaning };
+pub type Rip = Tiles<RipLevels>;
 
-    ghost lawful = { λ s. rip_lawful _ _ _ _ _ s.size.0.ranged s.size.1.ranged s.tile_size.0.ranged s.tile_size.1.ranged };
+impl Levels for RipLevels {
+    ghost list = { λ s. rip_levels s.rounding_mode s.size.0.pixels s.size.1.pixels };
 
-    fn level_count(&self) -> usize {
-        level_count(self.rounding_mode, self.size.1) * level_count(self.rounding_mode, self.size.0)
-    }
+    ghost lawful = { λ s. rip_levels_lawful _ _ _ s.size.0.ranged s.size.1.ranged };
 
-    fn block_size(&self) -> Vec2<usize> {
-        Vec2(self.tile_size.0.pixels, self.tile_size.1.pixels)
-    }
-
-    fn naming(&self) -> Naming {
-        Naming::Tile
+    fn count(&self) -> usize {
+        let across = self.size.0.level_count(self.rounding_mode);
+        let down = self.size.1.level_count(self.rounding_mode);
+        down * across
     }
 
     fn level(&self, position: usize) -> Option<Level> {
-        let across = level_count(self.rounding_mode, self.size.0);
-        let down = level_count(self.rounding_mode, self.size.1);
+        let across = self.size.0.level_count(self.rounding_mode);
+        let down = self.size.1.level_count(self.rounding_mode);
         let x = position % across;
         let y = position / across;
         if y < down {
-            let width = level_size(self.rounding_mode, self.size.0, x);
-            let height = level_size(self.rounding_mode, self.size.1, y);
+            let width = self.size.0.at_level(self.rounding_mode, x);
+            let height = self.size.1.at_level(self.rounding_mode, y);
             Some(Level {
                 pair: Vec2(x, y),
                 width,
@@ -53,8 +47,8 @@ impl Scheme for Rip {
     }
 
     fn position(&self, pair: Vec2<usize>) -> Option<usize> {
-        let across = level_count(self.rounding_mode, self.size.0);
-        let down = level_count(self.rounding_mode, self.size.1);
+        let across = self.size.0.level_count(self.rounding_mode);
+        let down = self.size.1.level_count(self.rounding_mode);
         if pair.0 < across && pair.1 < down {
             Some(pair.1 * across + pair.0)
         } else {
@@ -63,8 +57,6 @@ impl Scheme for Rip {
     }
 }
 
-impl Shrinking for Rip {
-    fn smallest(&self) -> usize {
-        self.level_count() - 1
-    }
+impl Halving for RipLevels {
+    ghost ends = { λ s. rip_ends s.rounding_mode s.size.0.pixels s.size.1.pixels };
 }

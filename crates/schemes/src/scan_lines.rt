@@ -3,9 +3,10 @@ ghost use Rattle.schemes.specs.Schemes.{scan_lines_meaning};
 ghost use Rattle.schemes.specs.Chosen.{scan_lines_lawful};
 
 use crate::level::{Level, Naming};
+use crate::levels::Levels;
 use crate::scheme::Scheme;
 use crate::side::Side;
-use crate::sole::{sole_level, sole_position};
+use crate::single::OneLevel;
 use numbers::vec2::Vec2;
 
 #[derive(Clone, Copy)]
@@ -20,11 +21,11 @@ impl Scheme for ScanLines {
     ghost lawful = { scan_lines_lawful };
 
     fn level_count(&self) -> usize {
-        1
+        OneLevel { size: self.size }.count()
     }
 
-    fn block_size(&self) -> Vec2<usize> {
-        Vec2(self.size.0.pixels, self.lines.pixels)
+    fn block_size(&self) -> Vec2<Side> {
+        Vec2(self.size.0, self.lines)
     }
 
     fn naming(&self) -> Naming {
@@ -32,10 +33,10 @@ impl Scheme for ScanLines {
     }
 
     fn level(&self, position: usize) -> Option<Level> {
-        sole_level(self.size, position)
+        OneLevel { size: self.size }.level(position)
     }
 
     fn position(&self, pair: Vec2<usize>) -> Option<usize> {
-        sole_position(self.size, pair)
+        OneLevel { size: self.size }.position(pair)
     }
 }

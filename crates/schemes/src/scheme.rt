@@ -1,9 +1,11 @@
 // Level schemes, by what they mean.
 ghost use Rattle.std.specs.Prelude.{◌≡◌, length};
 ghost use Rattle.std.specs.List.{slice_get};
+ghost use Rattle.schemes.specs.Making.{pixels_of_both};
 ghost use Rattle.schemes.specs.Meanings.{Meaning, Lawful, block_size, position_of};
 
 use crate::level::{Level, Naming};
+use crate::side::Side;
 use numbers::vec2::Vec2;
 
 pub trait Scheme {
@@ -13,8 +15,9 @@ pub trait Scheme {
     fn level_count(&self) -> usize
         ensures { result ≡ length (meaning self.now).levels };
 
-    fn block_size(&self) -> Vec2<usize>
-        ensures { result ≡ block_size (meaning self.now) };
+    // The sides of every block that is not clipped.
+    fn block_size(&self) -> Vec2<Side>
+        ensures { pixels_of_both result ≡ block_size (meaning self.now) };
 
     fn naming(&self) -> Naming
         ensures { result ≡ (meaning self.now).naming };

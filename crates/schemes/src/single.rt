@@ -1,41 +1,46 @@
-// Tiles at one level.
-ghost use Rattle.schemes.specs.Schemes.{single_meaning};
-ghost use Rattle.schemes.specs.Chosen.{single_lawful};
+// One level: that of scan lines, and of tiles that have no smaller copies.
+ghost use Rattle.schemes.specs.Levels.{one_level};
+ghost use Rattle.schemes.specs.Lists.{one_level_lawful};
 
-use crate::level::{Level, Naming};
-use crate::scheme::Scheme;
+use crate::level::Level;
+use crate::levels::Levels;
 use crate::side::Side;
-use crate::sole::{sole_level, sole_position};
+use crate::tiles::Tiles;
 use numbers::vec2::Vec2;
 
 #[derive(Clone, Copy)]
-pub struct Single {
+pub struct OneLevel {
     pub size: Vec2<Side>,
-    pub tile_size: Vec2<Side>,
 }
 
-impl Scheme for Single {
-    ghost meaning = { single_meaning };
+pub type Single = Tiles<OneLevel>;
 
-    ghost lawful = { single_lawful };
+impl Levels for OneLevel {
+    ghost list = { λ s. one_level s.size.0.pixels s.size.1.pixels };
 
-    fn level_count(&self) -> usize {
+    ghost lawful = { λ s. one_level_lawful _ _ s.size.0.ranged s.size.1.ranged };
+
+    fn count(&self) -> usize {
         1
     }
 
-    fn block_size(&self) -> Vec2<usize> {
-        Vec2(self.tile_size.0.pixels, self.tile_size.1.pixels)
-    }
-
-    fn naming(&self) -> Naming {
-        Naming::Tile
-    }
-
     fn level(&self, position: usize) -> Option<Level> {
-        sole_level(self.size, position)
+        if position == 0 {
+            Some(Level {
+                pair: Vec2(0, 0),
+                width: self.size.0.pixels,
+                height: self.size.1.pixels,
+            })
+        } else {
+            None
+        }
     }
 
     fn position(&self, pair: Vec2<usize>) -> Option<usize> {
-        sole_position(self.size, pair)
+        if pair.0 == 0 && pair.1 == 0 {
+            Some(0)
+        } else {
+            None
+        }
     }
 }

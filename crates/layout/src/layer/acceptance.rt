@@ -15,6 +15,7 @@ use crate::layer::Layer;
 use blocks::line_order::LineOrder;
 use numbers::refusal::{Module, Reason, Refusal};
 use numbers::vec2::Vec2;
+use prefixes::positioned::Positioned;
 use schemes::any_scheme::AnyScheme;
 use schemes::chunk_count::compute_chunk_count;
 
@@ -39,11 +40,7 @@ impl Layer {
         ensures lines { KeepsItsLines description result }
     {
         if let Some(reason) = description.broken_rule(channels.len()) {
-            return Err(Refusal {
-                reason,
-                module: Module::Layers,
-                place: 0,
-            });
+            return Err(Refusal::new(reason, Module::Layers));
         }
         if let Some(refusal) = description.broken_channel(channels) {
             return Err(refusal);
@@ -53,16 +50,14 @@ impl Layer {
         };
         let chunk_count = compute_chunk_count(&scheme);
         if !is_stated(description.chunk_count, chunk_count) {
-            return Err(Refusal {
-                reason: Reason::WrongChunkCount,
-                module: Module::Layers,
-                place: 0,
-            });
+            return Err(Refusal::new(Reason::WrongChunkCount, Module::Layers));
         }
         Ok(Layer {
-            position: description.layer_position,
+            positioned: Positioned {
+                scheme,
+                position: description.layer_position,
+            },
             line_order: description.line_order,
-            scheme,
             lines_per_block: description.lines_per_block,
             bytes_per_pixel: bytes_per_pixel(channels),
             chunk_count,
@@ -72,7 +67,7 @@ impl Layer {
     pub fn position(&self) -> Vec2<i32>
         ensures { result ≡ (laid self.now).position }
     {
-        self.position
+        self.positioned.position
     }
 
     pub fn line_order(&self) -> LineOrder
@@ -84,7 +79,7 @@ impl Layer {
     pub fn scheme(&self) -> AnyScheme
         ensures { any_meaning result ≡ (laid self.now).scheme }
     {
-        self.scheme
+        self.positioned.scheme
     }
 
     pub fn bytes_per_pixel(&self) -> usize

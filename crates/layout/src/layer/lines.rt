@@ -17,20 +17,12 @@ impl Layer {
     ) -> Result<TileCoordinates, Refusal>
         ensures { outcome result ≡ line_row (laid self.now) (lines_of self.now) block_y_coordinate }
     {
-        let Some(distance) = block_y_coordinate.checked_sub(self.position.1) else {
-            return Err(Refusal {
-                reason: Reason::LineDistanceTooLarge,
-                module: Module::Program,
-                place: 0,
-            });
-        };
+        let distance = block_y_coordinate
+            .checked_sub(self.positioned.position.1)
+            .ok_or(Refusal::new(Reason::LineDistanceTooLarge, Module::Program))?;
         // Rounded down, the quotient is negative exactly where the distance is.
         if distance < 0 {
-            return Err(Refusal {
-                reason: Reason::LineAboveLayer,
-                module: Module::Program,
-                place: 0,
-            });
+            return Err(Refusal::new(Reason::LineAboveLayer, Module::Program));
         }
         Ok(TileCoordinates {
             tile_index: Vec2(0, distance as usize / self.lines_per_block),

@@ -8,9 +8,7 @@ ghost use Rattle.prefixes.specs.Lookup.{looked_up};
 
 use crate::layer::Layer;
 use numbers::refusal::Refusal;
-use prefixes::block_prefix::write_prefix;
 use prefixes::coordinates::BlockCoordinates;
-use prefixes::lookup::lookup;
 use prefixes::prefix::Prefix;
 use schemes::scheme::Scheme;
 
@@ -19,7 +17,7 @@ impl Layer {
     pub fn lookup(&self, coordinates: BlockCoordinates) -> Result<usize, Refusal>
         ensures { outcome result ≡ looked_up (laid self.now).scheme (laid self.now).position coordinates }
     {
-        lookup(&self.scheme, self.position, coordinates)
+        self.positioned.lookup(coordinates)
     }
 
     // Writes the prefix of the block with a number, and answers how many bytes that took. A refusal writes nothing.
@@ -33,13 +31,13 @@ impl Layer {
         ensures buffer { buffer.new ≡ layer_buffer (laid self.now) number data_length buffer.old }
         ensures back { ComesBackFor (laid self.now).scheme (laid self.now).position number data_length result buffer.new }
     {
-        write_prefix(&self.scheme, self.position, number, data_length, buffer)
+        self.positioned.write_prefix(number, data_length, buffer)
     }
 
     // Reads a prefix as the layer's blocks have them.
     pub fn read_prefix(&self, bytes: &[u8]) -> Result<Prefix, Refusal>
         ensures { outcome result ≡ prefix_read (laid self.now).scheme.naming bytes.now }
     {
-        Prefix::read(self.scheme.naming(), bytes)
+        Prefix::read(self.positioned.scheme.naming(), bytes)
     }
 }

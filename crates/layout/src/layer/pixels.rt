@@ -7,26 +7,13 @@ ghost use Rattle.numbers.specs.Refusals.{outcome};
 use crate::layer::Layer;
 use blocks::bounds::IntegerBounds;
 use blocks::tile::TileCoordinates;
+use numbers::counts::LARGEST_LEVEL_INDEX;
 use numbers::refusal::{Module, Reason, Refusal};
 use numbers::vec2::Vec2;
-use numbers::whole::Whole;
 use schemes::find::find_level;
 use schemes::level::Naming;
 use schemes::scheme::Scheme;
-
-const LARGEST_LEVEL_INDEX: usize = 63;
-
-const TOO_DEEP: Refusal = Refusal {
-    reason: Reason::LevelIndexTooLarge,
-    module: Module::Layers,
-    place: 0,
-};
-
-const NO_SUCH_LEVEL: Refusal = Refusal {
-    reason: Reason::NoSuchTile,
-    module: Module::Layers,
-    place: 0,
-};
+use schemes::side::Side;
 
 // Scan lines look at a level's pair as such, and have one.
 fn is_too_deep(naming: Naming, level: Vec2<usize>) -> bool
@@ -53,13 +40,16 @@ impl Layer {
     fn level_pixels(&self, tile: TileCoordinates) -> Result<IntegerBounds, Refusal>
         ensures { outcome result ≡ block_pixels (laid self.now).scheme tile }
     {
-        if is_too_deep(self.scheme.naming(), tile.level_index) {
-            return Err(TOO_DEEP);
+        if is_too_deep(self.positioned.scheme.naming(), tile.level_index) {
+            return Err(Refusal::new(Reason::LevelIndexTooLarge, Module::Layers));
         }
-        let Some(level) = find_level(&self.scheme, tile.level_index) else {
-            return Err(NO_SUCH_LEVEL);
-        };
-        tile.to_data_indices(self.scheme.block_size(), Vec2(level.width, level.height))
+        let scheme = &self.positioned.scheme;
+        let level = find_level(scheme, tile.level_index).ok_or(Refusal::new(
+            Reason::NoSuchTile,
+            Module::Layers,
+        ))?;
+        let tile_size = Side::pixels_of(scheme.block_size());
+        tile.to_data_indices(tile_size, Vec2(level.width, level.height))
     }
 
     // In the plane of the layer, where positions may be negative.
@@ -70,12 +60,6 @@ impl Layer {
         ensures { outcome result ≡ plane_pixels (laid self.now) tile }
     {
         let data = self.level_pixels(tile)?;
-        match data.position.sum(self.position) {
-            Some(position) => Ok(IntegerBounds {
-                position,
-                size: data.size,
-            }),
-            None => unreachable(),
-        }
+        data.with_origin(self.positioned.position)
     }
 }

@@ -9,6 +9,7 @@ use numbers::refusal::{Module, Reason, Refusal};
 use numbers::vec2::Vec2;
 use schemes::pixel_count::compute_pixel_count;
 use schemes::scheme::Scheme;
+use schemes::side::Side;
 
 // At most, what a file keeps beside the pixels of a chunk.
 const CHUNK_OVERHEAD: usize = 64;
@@ -24,30 +25,24 @@ impl Layer {
     pub fn total_pixel_bytes(&self) -> Result<usize, Refusal>
         ensures { outcome result ≡ fitting (total_bytes (laid self.now)) }
     {
-        match compute_pixel_count(&self.scheme).checked_mul(self.bytes_per_pixel) {
-            Some(bytes) => Ok(bytes),
-            None => Err(TOO_LARGE),
-        }
+        let pixels = compute_pixel_count(&self.positioned.scheme);
+        let bytes = pixels.checked_mul(self.bytes_per_pixel);
+        bytes.ok_or(TOO_LARGE)
     }
 
     // A block of this width and height.
     pub fn block_byte_size(&self, size: Vec2<usize>) -> Result<usize, Refusal>
         ensures { outcome result ≡ fitting (block_bytes (laid self.now) size) }
     {
-        let Some(pixels) = size.0.checked_mul(size.1) else {
-            return Err(TOO_LARGE);
-        };
-        match pixels.checked_mul(self.bytes_per_pixel) {
-            Some(bytes) => Ok(bytes),
-            None => Err(TOO_LARGE),
-        }
+        let pixels = size.0.checked_mul(size.1).ok_or(TOO_LARGE)?;
+        pixels.checked_mul(self.bytes_per_pixel).ok_or(TOO_LARGE)
     }
 
     // A block that is not clipped.
     pub fn max_block_byte_size(&self) -> Result<usize, Refusal>
         ensures { outcome result ≡ fitting (most_block_bytes (laid self.now)) }
     {
-        self.block_byte_size(self.scheme.block_size())
+        self.block_byte_size(Side::pixels_of(self.positioned.scheme.block_size()))
     }
 
     // At most, in a file.
@@ -55,12 +50,10 @@ impl Layer {
         ensures { outcome result ≡ fitting (most_file_bytes (laid self.now)) }
     {
         let pixels = self.total_pixel_bytes()?;
-        let Some(overhead) = self.chunk_count.checked_mul(CHUNK_OVERHEAD) else {
-            return Err(TOO_LARGE);
-        };
-        match overhead.checked_add(pixels) {
-            Some(bytes) => Ok(bytes),
-            None => Err(TOO_LARGE),
-        }
+        let overhead = self.chunk_count.checked_mul(CHUNK_OVERHEAD);
+        overhead
+            .ok_or(TOO_LARGE)?
+            .checked_add(pixels)
+            .ok_or(TOO_LARGE)
     }
 }

@@ -11,7 +11,7 @@ unreachable-requires g c =
     let b = c.args.block in
     let ok = tile_bounds m (g.met.S.Scheme.lawful c.args.scheme.now) b c.requires in
     let told = c.in-Err.ensures
-    ∙ ap (λ (v : Vec2 ℕ). data_indices v (level_size b.level) c.tile_coordinates.result) c.block_size.ensures
+    ∙ ap (λ (v : Vec2 ℕ). data_indices v (level_size b.level) c.tile_coordinates.result) (c.pixels_of-size.ensures ∙ c.block_size.ensures)
     ∙ ap (data_indices (block_size m) (level_size b.level)) c.tile_coordinates.ensures ∙ ok in
     let z : ◌≡◌ {A = ℕ} 0 1 = cc in
     omega arith

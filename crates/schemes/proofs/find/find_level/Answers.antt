@@ -1,23 +1,19 @@
-use Rattle.std.proofs.Common.{◌≡◌, Some, Option, sym, ap, ◌∙◌, subst}
-use Rattle.schemes.specs.Finding.{IsLevelWith, level_at_place}
+use Rattle.std.proofs.Common.{◌≡◌, Some, Option, sym, ◌∙◌, subst}
+use Rattle.schemes.specs.Finding.{IsLevelWith}
 use Rattle.schemes.specs.declared.level.Level.{Level}
 use Rattle.schemes.proofs.Placed.{there, nowhere}
 use Rattle.schemes.proofs.find.find_level.Goals as goal
 
-pub returns-in-Some : goal.returns-in-Some
-returns-in-Some g c =
+-- no level has the pair
+pub returns-in_err-position-clause-law : goal.returns-in_err-position-clause-law
+returns-in_err-position-clause-law g c =
     let m = g.S.Scheme.meaning c.args.scheme.now in
-    let h = there m.levels c.in-Some.position c.args.pair (sym c.in-Some.ensures) in
-    let is : Some h.0 ≡ c.level.result = sym (c.level.ensures ∙ h.1) in
-    record {
-      value = c.level.ensures ∙ ap (level_at_place m.levels) c.in-Some.ensures;
-      law = subst (λ (r : Option Level). IsLevelWith m.levels c.args.pair r) is (c.in-Some.position, h.1, h.2, h.3);
-    }
+    rw c.from_residual.ensures (nowhere m.levels c.args.pair (g.met.S.Scheme.lawful c.args.scheme.now).distinct (sym c.in_err-position.ensures))
 
-pub returns-in-None : goal.returns-in-None
-returns-in-None g c =
+-- the level at the position has it
+pub returns-clause-law : goal.returns-clause-law
+returns-clause-law g c =
     let m = g.S.Scheme.meaning c.args.scheme.now in
-    record {
-      value = ap (level_at_place m.levels) c.in-None.ensures;
-      law = nowhere m.levels c.args.pair (g.met.S.Scheme.lawful c.args.scheme.now).distinct (sym c.in-None.ensures);
-    }
+    let h = there m.levels c.in_ok-position.field-0 c.args.pair (sym c.in_ok-position.ensures) in
+    let is : Some h.0 ≡ c.level.result = sym (c.level.ensures ∙ h.1) in
+    subst (λ (r : Option Level). IsLevelWith m.levels c.args.pair r) is (c.in_ok-position.field-0, h.1, h.2, h.3)

@@ -1,5 +1,7 @@
-use Rattle.std.proofs.Common.{◌≡◌, ◌*◌, length, Ok, refl, sym, ap, ◌∙◌, subst, arith}
+use Rattle.std.proofs.Common.{◌≡◌, ◌*◌, length, Ok, Err, refl, sym, ap, ◌∙◌, subst, arith}
 use Rattle.std.proofs.lemmas.Bool.{cond-true, cond-false}
+use Rattle.numbers.specs.Refusals.{told}
+use Rattle.numbers.specs.declared.refusal.Refusal.{Refusal}
 use Rattle.schemes.specs.Blocks.{chunks_in, pixel_count}
 use Rattle.schemes.specs.Meanings.{Meaning}
 use Rattle.schemes.specs.Schemes.{any_meaning}
@@ -17,19 +19,16 @@ unreachable-requires c =
 pub bytes_per_pixel-requires : goal.bytes_per_pixel-requires
 bytes_per_pixel-requires c = (kept c.args.description (length c.args.channels.now) c.in_default.ensures).few
 
-pub returns-then-not-is_stated : goal.returns-then-not-is_stated
-returns-then-not-is_stated c =
+pub returns-then-not-is_stated-clause-value : goal.returns-then-not-is_stated-clause-value
+returns-then-not-is_stated-clause-value c =
     let d = c.args.description in
     let cs = c.args.channels.now in
     let k = kept d (length cs) c.in_default.ensures in
     let m : any_meaning c.in-Some-scheme.scheme ≡ meaning_of d = meant d (length cs) k c.in-Some-scheme.scheme c.in-Some-scheme.ensures in
     let n : c.compute_chunk_count-chunk_count.result ≡ chunks_in (meaning_of d) = c.compute_chunk_count-chunk_count.ensures ∙ ap chunks_in m in
-    record {
-      value = sym (counted d cs c.in_default.ensures c.in_default-broken_channel.ensures
-          ∙ cond-false _ _ _ (ap (states d.chunk_count) (sym n) ∙ sym c.is_stated.ensures ∙ c.if-not-is_stated.true));
-      bytes = tt;
-      lines = tt;
-    }
+    ap (λ (why : Refusal). Err (told why)) c.new-then-not-is_stated.ensures
+    ∙ sym (counted d cs c.in_default.ensures c.in_default-broken_channel.ensures
+    ∙ cond-false _ _ _ (ap (states d.chunk_count) (sym n) ∙ sym c.is_stated.ensures ∙ c.if-not-is_stated.true))
 
 pub invariant_of-result : goal.invariant_of-result
 invariant_of-result c =
