@@ -4,6 +4,7 @@ ghost use Rattle.layout.specs.Acceptance.{broken_channel, broken_channel_rule, d
 ghost use Rattle.layout.specs.Channels.{pixel_bytes};
 ghost use Rattle.numbers.specs.Refusals.{number_of, told};
 ghost use Rattle.numbers.specs.Wholes.{optional};
+ghost use Rattle.std.specs.Result.{result_err};
 
 use crate::attribute::{BlockDescription, ChannelDescription};
 use crate::description::LayerDescription;
@@ -28,13 +29,10 @@ impl ChannelDescription {
 }
 
 impl LayerDescription {
-    fn is_tiled(&self) -> bool
+    pub(crate) fn is_tiled(&self) -> bool
         ensures { result ≡ is_tiled self.now.blocks }
     {
-        match self.blocks {
-            BlockDescription::ScanLines => false,
-            BlockDescription::Tiles(_) => true,
-        }
+        matches!(self.blocks, BlockDescription::Tiles(_))
     }
 
     // Whether the sampling divides the window's position and size.
@@ -46,37 +44,37 @@ impl LayerDescription {
             && axis_divides(channel.sampling.1, self.layer_position.1, self.layer_size.1)
     }
 
-    // The first rule that a channel of the layer breaks.
-    pub(crate) fn broken_channel_rule(&self, channel: &ChannelDescription) -> Option<Reason>
-        ensures { optional number_of result ≡ broken_channel_rule self.now channel.now }
+    // By the first rule that a channel of the layer breaks.
+    fn check_channel(&self, channel: &ChannelDescription) -> Result<(), Reason>
+        ensures { optional number_of (result_err result) ≡ broken_channel_rule self.now channel.now }
     {
         if !channel.has_good_sampling() {
-            Some(Reason::SamplingOutOfRange)
+            Err(Reason::SamplingOutOfRange)
         } else if self.is_tiled() && !channel.is_full() {
-            Some(Reason::SamplingOnTiles)
+            Err(Reason::SamplingOnTiles)
         } else if !self.is_divided_by(channel) {
-            Some(Reason::SamplingNotDividing)
+            Err(Reason::SamplingNotDividing)
         } else if !channel.is_full() {
-            Some(Reason::Subsampled)
+            Err(Reason::Subsampled)
         } else {
-            None
+            Ok(())
         }
     }
 
-    // The refusal of the first channel that breaks a rule.
-    pub(crate) fn broken_channel(&self, channels: &[ChannelDescription]) -> Option<Refusal>
-        ensures { optional told result ≡ broken_channel self.now 0 channels.now }
+    // By the first channel that breaks a rule.
+    pub(crate) fn check_channels(&self, channels: &[ChannelDescription]) -> Result<(), Refusal>
+        ensures { optional told (result_err result) ≡ broken_channel self.now 0 channels.now }
     {
         for (place, channel) in channels.iter().enumerate() {
-            if let Some(reason) = self.broken_channel_rule(channel) {
-                return Some(Refusal {
+            if let Err(reason) = self.check_channel(channel) {
+                return Err(Refusal {
                     reason,
                     module: Module::Layers,
                     place,
                 });
             }
         }
-        None
+        Ok(())
     }
 }
 
@@ -85,9 +83,8 @@ pub(crate) fn bytes_per_pixel(channels: &[ChannelDescription]) -> usize
     requires { length channels.now ≤ 1024 }
     ensures { result ≡ pixel_bytes channels.now }
 {
-    let mut bytes = 0;
-    for channel in channels {
-        bytes += channel.sample_type.bytes_per_sample();
-    }
-    bytes
+    channels
+        .iter()
+        .map(|channel| channel.sample_type.bytes_per_sample())
+        .sum()
 }

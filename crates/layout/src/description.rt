@@ -5,6 +5,7 @@ ghost use Rattle.layout.specs.Asked.{scheme_of, tile_scheme_of};
 ghost use Rattle.layout.specs.Windows.{good_lines};
 ghost use Rattle.numbers.specs.Refusals.{number_of};
 ghost use Rattle.numbers.specs.Wholes.{optional};
+ghost use Rattle.std.specs.Result.{result_err};
 ghost use Rattle.schemes.specs.Schemes.{any_meaning};
 ghost use Rattle.schemes.specs.Windows.{window_fits};
 
@@ -81,24 +82,24 @@ fn tile_scheme(size: Vec2<Side>, tiles: TileDescription) -> Option<AnyScheme>
 }
 
 impl LayerDescription {
-    // The first rule on the window, the blocks and the number of channels that the description breaks.
-    pub(crate) fn broken_rule(&self, channels: usize) -> Option<Reason>
-        ensures { optional number_of result ≡ broken_rule self.now channels }
+    // By the first rule on the window, the blocks and the number of channels that the description breaks.
+    pub(crate) fn check(&self, channels: usize) -> Result<(), Reason>
+        ensures { optional number_of (result_err result) ≡ broken_rule self.now channels }
     {
         if self.deep {
-            Some(Reason::DeepLayer)
+            Err(Reason::DeepLayer)
         } else if !self.window_fits() {
-            Some(Reason::WindowOutOfRange)
+            Err(Reason::WindowOutOfRange)
         } else if self.lacks_line_order() {
-            Some(Reason::UnspecifiedLineOrder)
+            Err(Reason::UnspecifiedLineOrder)
         } else if self.layer_size.0 == 0 || self.layer_size.1 == 0 {
-            Some(Reason::EmptySide)
+            Err(Reason::EmptySide)
         } else if !(good_lines(self.lines_per_block) && good_tile(self.blocks)) {
-            Some(Reason::BlockSideOutOfRange)
+            Err(Reason::BlockSideOutOfRange)
         } else if channels == 0 || channels > MOST_CHANNELS {
-            Some(Reason::ChannelCount)
+            Err(Reason::ChannelCount)
         } else {
-            None
+            Ok(())
         }
     }
 
@@ -106,10 +107,7 @@ impl LayerDescription {
     fn lacks_line_order(&self) -> bool
         ensures { result ≡ (not (is_tiled self.now.blocks) && is_unspecified self.now.line_order) }
     {
-        match (self.blocks, self.line_order) {
-            (BlockDescription::ScanLines, LineOrder::Unspecified) => true,
-            _ => false,
-        }
+        !self.is_tiled() && self.line_order == LineOrder::Unspecified
     }
 
     // The scheme that the description asks for, where all its sides are sides.

@@ -23,10 +23,7 @@ use schemes::chunk_count::compute_chunk_count;
 fn is_stated(stated: Option<usize>, chunk_count: usize) -> bool
     ensures { result ≡ states stated chunk_count }
 {
-    match stated {
-        Some(stated) => stated == chunk_count,
-        None => true,
-    }
+    stated.is_none_or(|stated| stated == chunk_count)
 }
 
 impl Layer {
@@ -39,12 +36,10 @@ impl Layer {
         ensures bytes { TakesItsChannels channels.now result }
         ensures lines { KeepsItsLines description result }
     {
-        if let Some(reason) = description.broken_rule(channels.len()) {
+        if let Err(reason) = description.check(channels.len()) {
             return Err(Refusal::new(reason, Module::Layers));
         }
-        if let Some(refusal) = description.broken_channel(channels) {
-            return Err(refusal);
-        }
+        description.check_channels(channels)?;
         let Some(scheme) = description.scheme() else {
             unreachable()
         };

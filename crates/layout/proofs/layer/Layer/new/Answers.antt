@@ -24,10 +24,10 @@ returns-then-not-is_stated-clause-value c =
     let d = c.args.description in
     let cs = c.args.channels.now in
     let k = kept d (length cs) c.in_default.ensures in
-    let m : any_meaning c.in-Some-scheme.scheme ≡ meaning_of d = meant d (length cs) k c.in-Some-scheme.scheme c.in-Some-scheme.ensures in
+    let m : any_meaning c.in-Some.scheme ≡ meaning_of d = meant d (length cs) k c.in-Some.scheme c.in-Some.ensures in
     let n : c.compute_chunk_count-chunk_count.result ≡ chunks_in (meaning_of d) = c.compute_chunk_count-chunk_count.ensures ∙ ap chunks_in m in
     ap (λ (why : Refusal). Err (told why)) c.new-then-not-is_stated.ensures
-    ∙ sym (counted d cs c.in_default.ensures c.in_default-broken_channel.ensures
+    ∙ sym (counted d cs c.in_default.ensures c.in_ok-check_channels.ensures
     ∙ cond-false _ _ _ (ap (states d.chunk_count) (sym n) ∙ sym c.is_stated.ensures ∙ c.if-not-is_stated.true))
 
 pub invariant_of-result : goal.invariant_of-result
@@ -35,7 +35,7 @@ invariant_of-result c =
     let d = c.args.description in
     let cs = c.args.channels.now in
     let k = kept d (length cs) c.in_default.ensures in
-    let m : any_meaning c.in-Some-scheme.scheme ≡ meaning_of d = meant d (length cs) k c.in-Some-scheme.scheme c.in-Some-scheme.ensures in
+    let m : any_meaning c.in-Some.scheme ≡ meaning_of d = meant d (length cs) k c.in-Some.scheme c.in-Some.ensures in
     let some = some_bytes cs k.some in
     record {
       placed = subst (λ (x : Meaning). Placed d.layer_position x) (sym m) (placed d (length cs) k);
@@ -49,12 +49,12 @@ returns c =
     let d = c.args.description in
     let cs = c.args.channels.now in
     let k = kept d (length cs) c.in_default.ensures in
-    let m : any_meaning c.in-Some-scheme.scheme ≡ meaning_of d = meant d (length cs) k c.in-Some-scheme.scheme c.in-Some-scheme.ensures in
+    let m : any_meaning c.in-Some.scheme ≡ meaning_of d = meant d (length cs) k c.in-Some.scheme c.in-Some.ensures in
     let n : c.compute_chunk_count-chunk_count.result ≡ chunks_in (meaning_of d) = c.compute_chunk_count-chunk_count.ensures ∙ ap chunks_in m in
     record {
       value = ap Ok (same_laid d cs _ _ _ m c.bytes_per_pixel.ensures n)
-          ∙ sym (counted d cs c.in_default.ensures c.in_default-broken_channel.ensures
+          ∙ sym (counted d cs c.in_default.ensures c.in_ok-check_channels.ensures
           ∙ cond-true _ _ _ (ap (states d.chunk_count) (sym n) ∙ sym c.is_stated.ensures ∙ c.if-not-is_stated.false));
-      bytes = ap (λ b. pixel_count (any_meaning c.in-Some-scheme.scheme) * b) c.bytes_per_pixel.ensures ∙ sym (over_channels (pixel_count (any_meaning c.in-Some-scheme.scheme)) cs);
+      bytes = ap (λ b. pixel_count (any_meaning c.in-Some.scheme) * b) c.bytes_per_pixel.ensures ∙ sym (over_channels (pixel_count (any_meaning c.in-Some.scheme)) cs);
       lines = refl;
     }
