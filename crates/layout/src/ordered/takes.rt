@@ -75,3 +75,12 @@ impl Iterator for OrderedBlocks {
         self.take_front()
     }
 }
+
+// From the back, so that `rev` goes through them against line order.
+impl DoubleEndedIterator for OrderedBlocks {
+    ghost next_back_gives = { λ before r after. (r ≡ slice_get (waiting before) (length (waiting before) - 1)) × (waiting after ≡ take (length (waiting before) - 1) (waiting before)) };
+
+    fn next_back(&mut self) -> Option<(usize, TileIndices)> {
+        self.take_back()
+    }
+}
