@@ -1,7 +1,7 @@
 // Adding channels, and lending them.
 ghost use Rattle.std.specs.Prelude.{◌≡◌, [], IfOk};
 ghost use Rattle.numbers.specs.Refusals.{outcome};
-ghost use Rattle.session.specs.Sessions.{added, adding, channels_of};
+ghost use Rattle.session.specs.Sessions.{added, adding};
 
 use crate::channels::Channels;
 use layout::attribute::{ChannelDescription, SampleType};
@@ -13,7 +13,7 @@ const MOST_CHANNELS: usize = 1024;
 
 impl Channels {
     pub fn new(heap: Global) -> Result<Channels, AllocError>
-        ensures { IfOk result (λ channels. channels_of channels ≡ []) }
+        ensures { IfOk result (λ channels. channels ≡ []) }
     {
         Ok(Channels {
             row: Vec::with_capacity(heap, MOST_CHANNELS)?,
@@ -22,8 +22,8 @@ impl Channels {
 
     // One channel more, with a sample for each pixel. Answers how many there are then.
     pub fn add(&mut self, sample_type: SampleType) -> Result<usize, Refusal>
-        ensures answer { outcome result ≡ adding (channels_of self.old) }
-        ensures row { channels_of self.new ≡ added (channels_of self.old) sample_type }
+        ensures answer { outcome result ≡ adding self.old }
+        ensures row { self.new ≡ added self.old sample_type }
     {
         if self.row.len() >= MOST_CHANNELS {
             return Err(Refusal {
@@ -40,7 +40,7 @@ impl Channels {
     }
 
     pub fn as_slice(&self) -> &[ChannelDescription]
-        ensures { result.now ≡ channels_of self.now }
+        ensures { result.now ≡ self.now }
     {
         self.row.as_slice()
     }
