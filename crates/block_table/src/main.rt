@@ -1,42 +1,61 @@
-// Replays a table of questions about blocks: a line of words lays a layer out or asks it, and each answer is a line.
+// Replays a table of questions about blocks: a line of words lays a layer out or asks it, and is answered by one line or more.
 #![tactic(auto)]
 
-mod answer;
-mod question;
+mod answers;
+mod order;
+mod prefix;
+mod questions;
 mod repeated;
 mod words;
 
-use crate::question::answer_line;
-use crate::words::described;
+use crate::answers::{Answer, Told};
+use crate::questions::Question;
+use crate::words::{described, numbers};
+use layout::attribute::{ChannelDescription, SampleType};
 use layout::description::LayerDescription;
-use std::alloc::Global;
-use std::io;
+use layout::layer::Layer;
+use numbers::refusal::Refusal;
+use numbers::vec2::Vec2;
 use std::io::{BufRead, BufReader, BufWriter, Write};
 
-// A line that begins with `layer` changes the layer, and is answered by the layer's chunk count.
-fn reply<W: Write>(
-    heap: Global,
-    layer: Option<LayerDescription>,
-    line: &str,
-    out: &mut W,
-) -> io::Result<Option<LayerDescription>> {
-    let layer = match line.strip_prefix("layer ") {
-        Some(words) => described(heap, words)?,
-        None => layer,
-    };
-    match layer {
-        Some(description) => answer_line(heap, description, line, out)?,
-        None => writeln!(out, "?")?,
+// The layer that was described last, or why it was refused; none before the first.
+#[derive(Drop)]
+struct Replay {
+    layer: Option<Result<Layer, Refusal>>,
+}
+
+impl Replay {
+    // A line that begins with `layer` changes the layer, and is answered as a question about it.
+    fn answer<'a>(&mut self, line: &'a str, numbers: &[i64]) -> Option<Told<Answer<'a>>> {
+        if line.starts_with("layer ") {
+            self.layer = described(numbers).map(lay_out);
+        }
+        Some(Told(match self.layer? {
+            Ok(layer) => Question::read(line, numbers)?.ask(&layer),
+            Err(why) => Err(why),
+        }))
     }
-    Ok(layer)
+}
+
+// With one channel of 16-bit floats.
+fn lay_out(description: LayerDescription) -> Result<Layer, Refusal> {
+    let channel = ChannelDescription {
+        sample_type: SampleType::F16,
+        sampling: Vec2(1, 1),
+    };
+    Layer::new(description, &[channel])
 }
 
 fn run(rt: &HostRuntime) -> anyhow::Result<()> {
     let mut out = BufWriter::new(rt.alloc(), rt.stdout())?;
-    let mut layer = None;
+    let mut replay = Replay { layer: None };
     for line in BufReader::new(rt.alloc(), rt.stdin())?.lines(rt.alloc()) {
         let line = line?;
-        layer = reply(rt.alloc(), layer, line.as_str(), &mut out)?;
+        let numbers = numbers(rt.alloc(), line.as_str())?;
+        match replay.answer(line.as_str(), numbers.as_slice()) {
+            Some(answer) => writeln!(out, "{answer}")?,
+            None => writeln!(out, "?")?,
+        }
     }
     out.flush()?;
     Ok(())

@@ -7,10 +7,66 @@ use layout::layer::Layer;
 use numbers::refusal::Refusal;
 use prefixes::positioned::Positioned;
 use schemes::chunk_count::compute_chunk_count;
-use schemes::scheme::Scheme;
-use std::alloc::{AllocError, Global};
+use std::array;
 
 const SAMPLES: usize = 1024;
+
+#[derive(Clone, Copy)]
+pub(crate) enum Repeated {
+    Count,
+    Enumerate,
+    Bounds,
+    Tiles,
+    Lookups,
+}
+
+impl Repeated {
+    pub(crate) fn read(word: &str) -> Option<Repeated> {
+        match word {
+            "count" => Some(Repeated::Count),
+            "enumerate" => Some(Repeated::Enumerate),
+            "bounds" => Some(Repeated::Bounds),
+            "tiles" => Some(Repeated::Tiles),
+            "lookups" => Some(Repeated::Lookups),
+            _ => None,
+        }
+    }
+
+    pub(crate) fn ask(self, layer: &Layer, times: usize) -> Result<usize, Refusal> {
+        let scheme = layer.scheme();
+        match self {
+            Repeated::Count => Ok(total(times, |_| compute_chunk_count(&scheme))),
+            Repeated::Enumerate => Ok(total(times, |_| enumerated(layer))),
+            Repeated::Bounds => Ok(total(times, |i| {
+                width(bounds_of_block(&scheme, sample(layer, i)))
+            })),
+            Repeated::Tiles => tiles(layer, times),
+            Repeated::Lookups => {
+                let image = Positioned {
+                    scheme,
+                    position: layer.position(),
+                };
+                Ok(total(times, |i| {
+                    image
+                        .block_coordinates(sample(layer, i))
+                        .and_then(|coordinates| layer.lookup(coordinates))
+                        .unwrap_or(0)
+                }))
+            }
+        }
+    }
+}
+
+// The sum of what is answered to a question that is asked so many times.
+fn total<F: FnMut(usize) -> usize>(times: usize, mut ask: F) -> usize
+    requires { F.IsAlwaysCallable ask }
+{
+    let mut sum = 0usize;
+    for i in 0..times {
+        sum = sum.wrapping_add(ask(i));
+    }
+    sum
+}
 
 // The number of a block for each of the samples, spread over all blocks.
 fn sample(layer: &Layer, index: usize) -> usize {
@@ -22,85 +78,27 @@ fn sample(layer: &Layer, index: usize) -> usize {
     }
 }
 
-fn count(layer: &Layer, times: usize) -> usize {
-    let mut sum = 0usize;
-    for _ in 0..times {
-        sum = sum.wrapping_add(compute_chunk_count(&layer.scheme()));
-    }
-    sum
-}
-
-fn enumerate(layer: &Layer, times: usize) -> usize {
-    let mut sum = 0usize;
-    for _ in 0..times {
-        for (number, tile) in layer.enumerate_ordered_blocks() {
-            sum = sum.wrapping_add(number.wrapping_add(tile.size.0));
-        }
-    }
-    sum
-}
-
 fn width(bounds: Result<IntegerBounds, Refusal>) -> usize {
-    match bounds {
-        Ok(bounds) => bounds.size.0,
-        Err(_) => 0,
-    }
+    bounds.map_or(0, |bounds| bounds.size.0)
 }
 
-fn bounds(layer: &Layer, times: usize) -> usize {
-    let mut sum = 0usize;
-    let scheme = layer.scheme();
-    for i in 0..times {
-        sum = sum.wrapping_add(width(bounds_of_block(&scheme, sample(layer, i))));
-    }
-    sum
+fn enumerated(layer: &Layer) -> usize {
+    layer
+        .enumerate_ordered_blocks()
+        .fold(0usize, |sum, (number, tile)| {
+            sum.wrapping_add(number).wrapping_add(tile.size.0)
+        })
 }
 
 // Tile indices are made before, since the question is what they lead to.
-fn tiles(heap: Global, layer: &Layer, times: usize) -> Result<usize, AllocError> {
+fn tiles(layer: &Layer, times: usize) -> Result<usize, Refusal> {
     let scheme = layer.scheme();
-    let mut asked: Vec<TileCoordinates> = Vec::new(heap);
-    for i in 0..SAMPLES {
-        if let Ok(block) = find_block(&scheme, sample(layer, i)) {
-            asked.push(block.tile_coordinates())?;
-        }
-    }
-    let mut sum = 0usize;
-    for _ in 0..times / SAMPLES {
-        for tile in asked.as_slice() {
-            sum = sum.wrapping_add(width(layer.get_absolute_block_pixel_coordinates(*tile)));
-        }
-    }
-    Ok(sum)
-}
-
-fn lookups(layer: &Layer, times: usize) -> usize {
-    let scheme = layer.scheme();
-    let mut sum = 0usize;
-    for i in 0..times {
-        let image = Positioned {
-            scheme,
-            position: layer.position(),
-        };
-        if let Ok(coordinates) = image.block_coordinates(sample(layer, i)) {
-            sum = sum.wrapping_add(layer.lookup(coordinates).unwrap_or(0));
-        }
-    }
-    sum
-}
-
-pub(crate) fn repeat(
-    heap: Global,
-    layer: &Layer,
-    kind: &str,
-    times: usize,
-) -> Result<usize, AllocError> {
-    match kind {
-        "count" => Ok(count(layer, times)),
-        "enumerate" => Ok(enumerate(layer, times)),
-        "bounds" => Ok(bounds(layer, times)),
-        "tiles" => tiles(heap, layer, times),
-        "lookups" => Ok(lookups(layer, times)),
-        _ => Ok(0),
-    }
+    let asked: [TileCoordinates; SAMPLES] = array::try_from_fn(|i| {
+        find_block(&scheme, sample(layer, i)).map(|block| block.tile_coordinates())
+    })?;
+    Ok(total(times / SAMPLES, |_| {
+        asked.iter().fold(0usize, |sum, tile| {
+            sum.wrapping_add(width(layer.get_absolute_block_pixel_coordinates(*tile)))
+        })
+    }))
 }

@@ -1,39 +1,35 @@
 // Replays a table of plans: each line of hexadecimal bytes is a session of its own; a line after `#` is told again.
 #![tactic(auto)]
 
-ghost use Rattle.std.specs.Prelude.{◌<◌, IfSome};
+ghost use Rattle.std.specs.Prelude.{◌≡◌};
+ghost use Rattle.plan_table.specs.Hexadecimal.{byte_of};
 
 use session::transcript::transcript;
 use std::alloc::{AllocError, Global};
 use std::io;
 use std::io::{BufRead, BufReader, BufWriter, Write};
 
-fn digit(b: u8) -> Option<u8>
-    ensures { IfSome result (λ d. d < 16) }
+// The byte that a pair of hexadecimal digits writes.
+fn byte(pair: &[u8]) -> Option<u8>
+    ensures { result ≡ byte_of pair.now }
 {
-    match b {
-        b'0'..=b'9' => Some(b - b'0'),
-        b'a'..=b'f' => Some(b - b'a' + 10),
-        _ => None,
-    }
+    let [high, low] = pair else {
+        return None;
+    };
+    let high = char::from(*high).to_digit(16)?;
+    let low = char::from(*low).to_digit(16)?;
+    Some((high * 16 + low) as u8)
 }
 
 // The bytes that pairs of digits write; what is no pair of digits ends them.
 fn unhex(heap: Global, text: &[u8]) -> Result<Vec<u8>, AllocError> {
-    let mut bytes = Vec::new(heap);
-    for pair in text.chunks_exact(2) {
-        match (digit(pair[0]), digit(pair[1])) {
-            (Some(high), Some(low)) => bytes.push(high * 16 + low)?,
-            _ => return Ok(bytes),
-        }
-    }
-    Ok(bytes)
+    text.chunks_exact(2).map_while(byte).collect(heap)
 }
 
 fn replay<W: Write>(heap: Global, plan: &[u8], out: &mut W) -> io::Result<()> {
     let bytes = unhex(heap, plan)?;
     let lines = transcript(heap, bytes.as_slice())?;
-    for line in lines.as_slice() {
+    for line in &lines {
         writeln!(out, "{line}")?;
     }
     Ok(())

@@ -1,6 +1,7 @@
 -- What a session holds, and what each command makes of it and answers.
-use Rattle.std.specs.Prelude.{ℕ, ◌+◌, cond, List, [], ◌∷◌, ◌++◌, length, Ok, Err, vec_items, Result, nat_lt}
-use Rattle.numbers.specs.Refusals.{Told, refused, told}
+use Rattle.std.specs.Prelude.{ℕ, ◌+◌, cond, List, [], ◌∷◌, ◌++◌, length, Ok, Err, Result, nat_lt}
+use Rattle.numbers.specs.Refusals.{Told, outcome_as, refused}
+use Rattle.numbers.specs.declared.refusal.Refusal.{Refusal}
 use Rattle.schemes.specs.Blocks.{chunks_in}
 use Rattle.layout.specs.Acceptance.{Laid, accepted}
 use Rattle.layout.specs.Layers.{laid}
@@ -8,16 +9,13 @@ use Rattle.layout.specs.Totals.{fitting, total_bytes}
 use Rattle.layout.specs.declared.attribute.ChannelDescription.{ChannelDescription}
 use Rattle.layout.specs.declared.attribute.SampleType.{SampleType}
 use Rattle.layout.specs.declared.description.LayerDescription.{LayerDescription}
+use Rattle.layout.specs.declared.layer.Layer.{Layer}
 use Rattle.commands.specs.declared.command.Command.{Command}
 use Rattle.commands.specs.declared.command.Command.TheVariants.{C, S, T, O, F, B, P, N, Q, Y, X}
-use Rattle.session.specs.declared.answer.Answer.{Answer}
-use Rattle.session.specs.declared.answer.Answer.TheVariants.{Channels as Counted, Layer as Measured, Refused}
-use Rattle.session.specs.declared.channels.Channels.{Channels}
+use Rattle.session.specs.declared.answer.Accepted.{Accepted}
+use Rattle.session.specs.declared.answer.Accepted.TheVariants.{Channels as Counted, Layer as Measured}
 use Rattle.session.specs.declared.session.Session.{Session}
 use Rattle.session.specs.declared.session.Session.TheVariants.{Nothing, Laid as Holds}
-
-abbrev pub channels_of : Channels → List ChannelDescription
-channels_of channels = vec_items channels.row
 
 -- a channel of this type with a sample for each pixel
 abbrev pub channel : SampleType → ChannelDescription
@@ -37,20 +35,22 @@ pub data Held : Type 0 where
   layer : Laid → Held
 
 abbrev pub held : Session → Held
-held (Nothing c) = channels (channels_of c)
+held (Nothing cs) = channels cs
 held (Holds l) = layer (laid l)
 
 -- an answer: the fields that follow `ok`, or a refusal, whose number follows `no`
 abbrev pub Said : Type 0
 Said = Result (List ℕ) Told
 
-abbrev pub said : Answer → Said
-said (Counted n) = Ok (n ∷ [])
-said (Measured chunks bytes) = Ok (chunks ∷ (bytes ∷ []))
-said (Refused r) = Err (told r)
+abbrev pub fields : Accepted → List ℕ
+fields (Counted n) = n ∷ []
+fields (Measured chunks bytes) = chunks ∷ (bytes ∷ [])
+
+abbrev pub said : Result Accepted Refusal → Said
+said answer = outcome_as fields answer
 
 -- what a command left of a session, with its answer
-abbrev pub shown : Session × Answer → Held × Said
+abbrev pub shown : Session × Result Accepted Refusal → Held × Said
 shown r = (held r.0, said r.1)
 
 -- a refusal leaves what was held
@@ -65,15 +65,27 @@ not_now = refused 30 8 0
 abbrev pub added_to : List ChannelDescription → SampleType → Held × Said
 added_to cs t = cond (nat_lt (length cs) 1024) (channels (cs ++ (channel t ∷ [])), Ok ((length cs + 1) ∷ [])) (stays (channels cs) (refused 9 8 0))
 
--- `S` and `T`: the layer, with its chunk count and its bytes
+-- a layer with the fields of its answer
+abbrev pub measured : Layer × Accepted → Laid × List ℕ
+measured r = (laid r.0, fields r.1)
+
+-- the layer, with its chunk count and its bytes
+abbrev pub laid_out : List ChannelDescription → LayerDescription → Result (Laid × List ℕ) Told
+laid_out cs d =
+    elim (accepted d cs) [
+      | Err why ↦ Err why
+      | Ok l ↦ elim (fitting (total_bytes l)) [
+        | Err why ↦ Err why
+        | Ok bytes ↦ Ok (l, chunks_in l.scheme ∷ (bytes ∷ []))
+      ]
+    ]
+
+-- `S` and `T`
 abbrev pub laid_out_in : List ChannelDescription → LayerDescription → Held × Said
 laid_out_in cs d =
-    elim (accepted d cs) [
+    elim (laid_out cs d) [
       | Err why ↦ stays (channels cs) why
-      | Ok l ↦ elim (fitting (total_bytes l)) [
-        | Err why ↦ stays (channels cs) why
-        | Ok bytes ↦ (layer l, Ok (chunks_in l.scheme ∷ (bytes ∷ [])))
-      ]
+      | Ok r ↦ (layer r.0, Ok r.1)
     ]
 
 -- each command in each state; one that is not allowed now is refused by 30

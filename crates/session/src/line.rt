@@ -17,17 +17,14 @@ impl fmt::Display for Line {
 
     fn fmt<W: fmt::Write>(&self, f: &mut fmt::Formatter<W>) -> fmt::Result {
         match self {
-            Line::Answered { letter, answer } => match answer {
-                Answer::Channels(count) => write!(f, "{letter} ok {count}"),
-                Answer::Layer {
-                    chunk_count,
-                    total_pixel_bytes,
-                } => write!(f, "{letter} ok {chunk_count} {total_pixel_bytes}"),
-                Answer::Refused(refusal) => {
-                    let number = refusal.number();
-                    write!(f, "{letter} no {number}")
-                }
-            },
+            Line::Answered {
+                letter,
+                answer: Ok(accepted),
+            } => write!(f, "{letter} ok {accepted}"),
+            Line::Answered {
+                letter,
+                answer: Err(refusal),
+            } => write!(f, "{letter} no {}", refusal.number()),
             Line::Unreadable { place } => write!(f, "? {place}"),
         }
     }

@@ -1,11 +1,12 @@
 // A session: what it holds, and what each command makes of it.
 ghost use Rattle.std.specs.Prelude.{◌≡◌};
-ghost use Rattle.session.specs.Sessions.{added_to, channels_of, held, laid_out_in, shown, stepped};
+ghost use Rattle.numbers.specs.Refusals.{outcome_as};
+ghost use Rattle.session.specs.Sessions.{added_to, held, laid_out, measured, shown, stepped};
 
-use crate::answer::Answer;
+use crate::answer::{Accepted, Answer};
 use crate::channels::Channels;
 use commands::command::Command;
-use layout::attribute::SampleType;
+use layout::attribute::{ChannelDescription, SampleType};
 use layout::description::LayerDescription;
 use layout::layer::Layer;
 use numbers::refusal::{Module, Reason, Refusal};
@@ -17,35 +18,25 @@ pub enum Session {
 }
 
 fn add_channel(mut channels: Channels, sample_type: SampleType) -> (Session, Answer)
-    ensures { shown result ≡ added_to (channels_of channels) sample_type }
+    ensures { shown result ≡ added_to channels sample_type }
 {
-    match channels.add(sample_type) {
-        Ok(count) => (Session::Nothing(channels), Answer::Channels(count)),
-        Err(refusal) => (Session::Nothing(channels), Answer::Refused(refusal)),
-    }
+    let answer = channels.add(sample_type).map(Accepted::Channels);
+    (Session::Nothing(channels), answer)
 }
 
-// A layer is held only where its bytes can be told too.
-fn lay_out(channels: Channels, description: LayerDescription) -> (Session, Answer)
-    ensures { shown result ≡ laid_out_in (channels_of channels) description }
+// A layer is laid out only where its bytes can be told too.
+fn lay_out(
+    description: LayerDescription,
+    channels: &[ChannelDescription],
+) -> Result<(Layer, Accepted), Refusal>
+    ensures { outcome_as measured result ≡ laid_out channels.now description }
 {
-    let layer = match Layer::new(description, channels.as_slice()) {
-        Ok(layer) => layer,
-        Err(refusal) => return (Session::Nothing(channels), Answer::Refused(refusal)),
+    let layer = Layer::new(description, channels)?;
+    let accepted = Accepted::Layer {
+        chunk_count: layer.chunk_count(),
+        total_pixel_bytes: layer.total_pixel_bytes()?,
     };
-    match layer.total_pixel_bytes() {
-        Ok(total_pixel_bytes) => {
-            let chunk_count = layer.chunk_count();
-            (
-                Session::Laid(layer),
-                Answer::Layer {
-                    chunk_count,
-                    total_pixel_bytes,
-                },
-            )
-        }
-        Err(refusal) => (Session::Nothing(channels), Answer::Refused(refusal)),
-    }
+    Ok((layer, accepted))
 }
 
 // Takes one command. One that is not allowed now is refused first of all, and a refused one changes nothing.
@@ -54,11 +45,15 @@ pub fn step(session: Session, command: Command) -> (Session, Answer)
 {
     match (session, command) {
         (Session::Nothing(channels), Command::C(sample_type)) => add_channel(channels, sample_type),
-        (Session::Nothing(channels), Command::S(description)) => lay_out(channels, description),
-        (Session::Nothing(channels), Command::T(description)) => lay_out(channels, description),
-        (other, _) => (
-            other,
-            Answer::Refused(Refusal {
+        (Session::Nothing(channels), Command::S(description) | Command::T(description)) => {
+            match lay_out(description, channels.as_slice()) {
+                Ok((layer, accepted)) => (Session::Laid(layer), Ok(accepted)),
+                Err(refusal) => (Session::Nothing(channels), Err(refusal)),
+            }
+        }
+        (session, _) => (
+            session,
+            Err(Refusal {
                 reason: Reason::NotAllowedNow,
                 module: Module::Program,
                 place: 0,

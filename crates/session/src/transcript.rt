@@ -16,8 +16,8 @@ pub fn transcript(heap: Global, bytes: &[u8]) -> Result<Vec<Line>, AllocError>
     let mut lines = Vec::new(heap);
     let mut session = Session::Nothing(Channels::new(heap)?);
     let mut rest = bytes;
-    while !rest.is_empty() {
-        let letter = char::from(rest[0]);
+    while let [letter, ..] = rest {
+        let letter = char::from(*letter);
         let Some((command, after)) = decode(rest) else {
             let place = bytes.len() - rest.len();
             lines.push(Line::Unreadable { place })?;
