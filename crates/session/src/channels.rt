@@ -4,12 +4,11 @@ ghost use Rattle.numbers.specs.Refusals.{outcome};
 ghost use Rattle.session.specs.Sessions.{added, adding};
 
 use layout::attribute::{ChannelDescription, SampleType};
+use layout::description::MOST_CHANNELS;
 use numbers::refusal::{Module, Reason, Refusal};
 use numbers::vec2::Vec2;
 use std::alloc::{AllocError, Global};
 use std::marker::Model;
-
-const MOST_CHANNELS: usize = 1024;
 
 // Contracts see the list of the channels. The room is made once, so that no later call can want memory.
 #[derive(Drop)]
@@ -43,11 +42,7 @@ impl Channels {
         ensures row { self.new ≡ added self.old sample_type }
     {
         if self.row.len() >= MOST_CHANNELS {
-            return Err(Refusal {
-                reason: Reason::ChannelCount,
-                module: Module::Program,
-                place: 0,
-            });
+            return Err(Refusal::new(Reason::ChannelCount, Module::Program));
         }
         self.row.push_reserved(ChannelDescription {
             sample_type,

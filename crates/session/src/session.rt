@@ -53,11 +53,7 @@ pub fn step(session: Session, command: Command) -> (Session, Answer)
         }
         (session, _) => (
             session,
-            Err(Refusal {
-                reason: Reason::NotAllowedNow,
-                module: Module::Program,
-                place: 0,
-            }),
+            Err(Refusal::new(Reason::NotAllowedNow, Module::Program)),
         ),
     }
 }
