@@ -34,9 +34,6 @@ stretch_all xs n e = take_all (n - 0) xs (omega arith)
 pub stretch_length : {X : Type 0} (xs : List X) (f b : ℕ) → f ≤ b → b ≤ length xs → length (stretch xs f b) ≡ b - f
 stretch_length xs f b h k = length-take-le (b - f) (drop f xs) (simp length-drop (omega arith))
 
-pub stretch_none : {X : Type 0} (xs : List X) (f b : ℕ) → f ≡ b → stretch xs f b ≡ []
-stretch_none xs f b e = let z : b - f ≡ 0 = omega arith in ap (λ n. take n (drop f xs)) z
-
 pub stretch_first : {X : Type 0} (xs : List X) (f b : ℕ) → f < b → slice_get (stretch xs f b) 0 ≡ slice_get xs f
 stretch_first xs f b h = nth_take (drop f xs) (b - f) 0 (omega arith) ∙ nth_drop xs f 0 ∙ ap (slice_get xs) (add-zero f)
 

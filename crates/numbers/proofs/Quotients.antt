@@ -1,10 +1,10 @@
 -- Rounded quotients of signed numbers.
-use Rattle.std.proofs.Common.{◌≡◌, ℕ, zero, suc, ◌+◌, ◌/◌, ◌^◌, ◌<◌, true, false, ◌&&◌, ℤ, pos, negsuc, ◌+ℤ◌, ◌-ℤ◌, nat_abs, Some, None, Ok, Err, Result, sym, refl, ap, ◌∙◌, subst, zero-le, add-mul, div-le_self, arith, w32, SFits, to_z, of_z}
+use Rattle.std.proofs.Common.{◌≡◌, ℕ, zero, suc, ◌+◌, ◌/◌, ◌^◌, ◌<◌, true, false, ◌&&◌, ℤ, pos, negsuc, ◌+ℤ◌, ◌-ℤ◌, Some, Ok, Err, sym, refl, ap, ◌∙◌, zero-le, add-mul, div-le_self, arith, w32, SFits, to_z, of_z}
 use lib.Signed.{le_z, lt_z, quot_z}
 use Rattle.std.proofs.lemmas.Int.{ints, to_z_pos}
-use Rattle.std.proofs.lemmas.Bool.{and_from, and_right, le-leb, cond-true, cond-false}
+use Rattle.std.proofs.lemmas.Bool.{and_from, le-leb, cond-true}
 use Rattle.numbers.specs.Refusals.{Told}
-use Rattle.numbers.specs.Rounding.{ceiling, rounded, Rounded, quotient, divided}
+use Rattle.numbers.specs.Rounding.{ceiling, rounded, quotient, divided}
 use Rattle.numbers.specs.declared.rounding.RoundingMode.{RoundingMode}
 use Rattle.numbers.specs.declared.rounding.RoundingMode.TheVariants.{Down, Up}
 use Rattle.numbers.proofs.Powers.{rounded_is, only_one}
@@ -14,22 +14,6 @@ may_divide a b = and_from _ _ (le-leb 0 a zero-le) (le-leb 1 (suc b) (omega arit
 
 quotient_there : (m : RoundingMode) (a b : ℕ) → quotient m (pos a) (pos (suc b)) ≡ Some (pos (rounded m a (suc b)))
 quotient_there m a b = cond-true _ _ _ (may_divide a b)
-
-absent : {P : Type 0} {q : ℤ} → Some q ≡ None → P
-absent e =
-    let z : ◌≡◌ {A = ℕ} 0 1 = cc in
-    let none : ⊥ = omega arith in
-    elim none [ ]
-
--- a quotient that is there is the one that is answered, and meets its inequalities
-pub answered : (m : RoundingMode) (a b q : ℤ) → Some q ≡ quotient m a b → (◌≡◌ {A = Result ℤ Told} (Ok q) (divided m a b)) × Rounded m (nat_abs a) (nat_abs b) (nat_abs q)
-answered m (pos a) (pos (suc b)) q e =
-    let f : Some q ≡ Some (pos (rounded m a (suc b))) = e ∙ quotient_there m a b in
-    let same : q ≡ pos (rounded m a (suc b)) = cc in
-    (ap Ok same ∙ sym (cond-true _ _ _ (may_divide a b)), subst (λ (z : ℤ). Rounded m a (suc b) (nat_abs z)) (sym same) (rounded_is m a (suc b) (omega arith)))
-answered m (pos a) (pos zero) q e = absent (e ∙ cond-false _ _ _ (and_right (le_z (pos 0) (pos a)) false refl))
-answered m (pos a) (negsuc b) q e = absent (e ∙ cond-false _ _ _ (and_right (le_z (pos 0) (pos a)) false refl))
-answered m (negsuc a) b q e = absent e
 
 less : (x : ℤ) (a : ℕ) → x ≡ pos (suc a) → x -ℤ pos 1 ≡ pos a
 less x a e = omega (arith, ints)

@@ -1,5 +1,5 @@
 -- Lists by their places, and sums over levels that fit.
-use Rattle.std.specs.Prelude.{◌≡◌, ℕ, zero, suc, ◌+◌, ◌*◌, ◌/◌, ◌^◌, ◌<◌, ◌≤◌, List, [], ◌∷◌, length, take, Some, None, sum_by, slice_index_or, refl}
+use Rattle.std.specs.Prelude.{◌≡◌, ℕ, zero, suc, ◌+◌, ◌/◌, ◌^◌, ◌<◌, ◌≤◌, List, [], ◌∷◌, length, take, Some, None, sum_by, slice_index_or, refl}
 use Rattle.std.proofs.Common.{sym, ◌∙◌, ap, zero-le, suc-le-suc, le-mul_of_pos_right, mul-le-mul, arith}
 use Rattle.std.proofs.Math.Nat.{div-add-mod}
 use Rattle.std.specs.List.{slice_get}
@@ -46,17 +46,6 @@ so_far_fits m ok b w h i =
     let whole : sum_by (blocks_in b) m.levels ≤ sum_by area m.levels = sumBy_mono (blocks_in b) area (chunks_le b w h) m.levels in
     let fits = ok.fits in
     omega arith
-
--- blocks of one by one are pixels
-ceiling_one : (n : ℕ) → ceiling n 1 ≡ n
-ceiling_one n = omega arith
-
-pub pixels : (ls : List Level) → sum_by (blocks_in (record { 0 = 1; 1 = 1 })) ls ≡ sum_by area ls
-pixels [] = refl
-pixels (l ∷ ls) =
-    let block : Vec2 ℕ = record { 0 = 1; 1 = 1 } in
-    let here : blocks_in block l ≡ area l = ap (λ n. n * ceiling l.height 1) (ceiling_one l.width) ∙ ap (λ n. l.width * n) (ceiling_one l.height) in
-    sum_by-cons (blocks_in block) l ls ∙ ap (λ n. n + sum_by (blocks_in block) ls) here ∙ ap (λ n. area l + n) (pixels ls) ∙ sym (sum_by-cons area l ls)
 
 pub nth_at : {X : Type 0} (xs : List X) (i : ℕ) (x : X) → i < length xs → x ≡ slice_index_or xs i x → Some x ≡ slice_get xs i
 nth_at [] i x h e = let none : ⊥ = omega arith in elim none [ ]
