@@ -1,4 +1,7 @@
 // Codes that stand for no case.
+ghost use Rattle.std.specs.Prelude.{Some};
+ghost use Rattle.numbers.specs.Codes.{unknown_text};
+
 use std::error::Error;
 use std::fmt;
 
@@ -7,6 +10,8 @@ use std::fmt;
 pub struct UnknownCode(pub u8);
 
 impl fmt::Display for UnknownCode {
+    ghost output = { λ unknown. Some (unknown_text unknown) };
+
     fn fmt<W: fmt::Write>(&self, f: &mut fmt::Formatter<W>) -> fmt::Result {
         write!(f, "no case has the code {}", self.0)
     }
