@@ -1,40 +1,17 @@
 -- The commands as bytes: one letter, followed by operands of fixed widths.
-use Rattle.std.specs.Prelude.{ℕ, ◌+◌, false, cond, List, [], ◌∷◌, length, drop, ℤ, Some, None, Option, ◌==◌, nat_le}
+use Rattle.std.specs.Prelude.{ℕ, false, cond, List, [], ◌∷◌, length, drop, Some, None, Option, ◌==◌, nat_le}
 use Rattle.numbers.specs.Wholes.{optional}
 use Rattle.numbers.specs.declared.rounding.RoundingMode.{RoundingMode}
-use Rattle.numbers.specs.declared.rounding.RoundingMode.TheVariants.{Down, Up}
-use Rattle.numbers.specs.declared.vec2.Vec2.{Vec2}
+use Rattle.numbers.specs.Codes.{rounding_mode}
 use Rattle.layout.specs.declared.attribute.BlockDescription.TheVariants.{ScanLines, Tiles}
 use Rattle.layout.specs.declared.attribute.LevelMode.{LevelMode}
-use Rattle.layout.specs.declared.attribute.LevelMode.TheVariants.{Singular, MipMap, RipMap}
+use Rattle.layout.specs.Codes.{level_mode, sample_type}
 use Rattle.blocks.specs.declared.line_order.LineOrder.{LineOrder}
-use Rattle.blocks.specs.declared.line_order.LineOrder.TheVariants.{Increasing, Decreasing, Unspecified}
-use Rattle.layout.specs.declared.attribute.SampleType.{SampleType}
-use Rattle.layout.specs.declared.attribute.SampleType.TheVariants.{U32, F16, F32}
-use Rattle.commands.specs.Bytes.{byte_at, half_at, word_at, int_at, long_at}
+use Rattle.blocks.specs.Codes.{line_order}
+use Rattle.fields.specs.Bytes.{byte_at, half_at, int_at, ints_at, long_at, word_at, words_at}
 use Rattle.commands.specs.declared.command.Command.{Command}
 use Rattle.commands.specs.declared.command.Command.TheVariants.{C, S, T, O, F, B, P, N, Q, Y, X}
 use Rattle.layout.specs.declared.description.LayerDescription.{LayerDescription}
-
--- what a byte stands for where it names a case; any other byte can't be read
-abbrev pub sample_type : ℕ → Option SampleType
-sample_type b = cond (b == 0) (Some U32) (cond (b == 1) (Some F16) (cond (b == 2) (Some F32) None))
-
-abbrev pub line_order : ℕ → Option LineOrder
-line_order b = cond (b == 0) (Some Increasing) (cond (b == 1) (Some Decreasing) (cond (b == 2) (Some Unspecified) None))
-
-abbrev pub level_mode : ℕ → Option LevelMode
-level_mode b = cond (b == 0) (Some Singular) (cond (b == 1) (Some MipMap) (cond (b == 2) (Some RipMap) None))
-
-abbrev pub rounding_mode : ℕ → Option RoundingMode
-rounding_mode b = cond (b == 0) (Some Down) (cond (b == 1) (Some Up) None)
-
--- two signed numbers, and two unsigned ones, from a place on
-abbrev pub ints_at : List ℕ → ℕ → Vec2 ℤ
-ints_at ops at = record { 0 = int_at ops at; 1 = int_at ops (at + 4) }
-
-abbrev pub words_at : List ℕ → ℕ → Vec2 ℕ
-words_at ops at = record { 0 = word_at ops at; 1 = word_at ops (at + 4) }
 
 -- `S`: position, size, lines (two bytes), order; a command's layer is flat, and states no chunk count
 abbrev pub scan_lines : List ℕ → LineOrder → LayerDescription

@@ -1,9 +1,10 @@
 // Commands: one letter, followed by operands of fixed widths.
 ghost use Rattle.std.specs.Prelude.{◌≡◌, ◌∷◌};
-ghost use Rattle.commands.specs.Bytes.{seen, taken};
-ghost use Rattle.commands.specs.Commands.{ints_at, level_mode, line_order, read_command, rounding_mode, sample_type, words_at};
+ghost use Rattle.commands.specs.Commands.{read_command};
+ghost use Rattle.fields.specs.Bytes.{seen};
 
-use crate::operand;
+use fields::field::Field;
+use fields::tuple::sizes;
 use layout::attribute::{BlockDescription, LevelMode, LineOrder, SampleType, TileDescription};
 use layout::description::LayerDescription;
 use numbers::rounding::RoundingMode;
@@ -37,14 +38,18 @@ pub enum Command {
     },
 }
 
+// Where a layer lies and how large it is: `S` and `T` both begin with it.
+type Window = (Vec2<i32>, Vec2<u32>);
+
+// What follows a `T`: its window, the tiles' sides, and a byte each for mode, rounding and order.
+type Tiling = (Window, Vec2<u32>, (u8, u8, u8));
+
 // The command at the front of the bytes and the bytes after it, or nothing where it can't be read.
 pub fn decode(bytes: &[u8]) -> Option<(Command, &[u8])>
     ensures { seen result ≡ read_command bytes.now }
 {
-    let [letter, rest @ ..] = bytes else {
-        return None;
-    };
-    match char::from(*letter) {
+    let (letter, rest) = u8::read(bytes)?;
+    match char::from(letter) {
         'C' => channel(rest),
         'S' => scan_lines(rest),
         'T' => tiles(rest),
@@ -64,22 +69,20 @@ pub fn decode(bytes: &[u8]) -> Option<(Command, &[u8])>
 fn channel(bytes: &[u8]) -> Option<(Command, &[u8])>
     ensures { seen result ≡ read_command (67 ∷ bytes.now) }
 {
-    let (code, rest) = operand::byte(bytes)?;
-    Some((Command::C(sample_type(code)?), rest))
+    let (code, rest) = u8::read(bytes)?;
+    Some((Command::C(SampleType::try_from(code).ok()?), rest))
 }
 
 fn scan_lines(bytes: &[u8]) -> Option<(Command, &[u8])>
     ensures { seen result ≡ read_command (83 ∷ bytes.now) }
 {
-    let ((layer_position, layer_size), rest) = window(bytes)?;
-    let (lines, rest) = operand::half(rest)?;
-    let (order, rest) = operand::byte(rest)?;
+    let (((layer_position, layer_size), lines, order), rest) = <(Window, u16, u8)>::read(bytes)?;
     let description = LayerDescription {
         layer_position,
-        layer_size,
+        layer_size: sizes(layer_size),
         blocks: BlockDescription::ScanLines,
         lines_per_block: usize::from(lines),
-        line_order: line_order(order)?,
+        line_order: LineOrder::try_from(order).ok()?,
         deep: false,
         chunk_count: None,
     };
@@ -89,22 +92,19 @@ fn scan_lines(bytes: &[u8]) -> Option<(Command, &[u8])>
 fn tiles(bytes: &[u8]) -> Option<(Command, &[u8])>
     ensures { seen result ≡ read_command (84 ∷ bytes.now) }
 {
-    let ((layer_position, layer_size), rest) = window(bytes)?;
-    let (tile_size, rest) = operand::sizes(rest)?;
-    let [mode, rounding, order, rest @ ..] = rest else {
-        return None;
-    };
+    let ((window, tile_size, (mode, rounding, order)), rest) = Tiling::read(bytes)?;
+    let (layer_position, layer_size) = window;
     let tile = TileDescription {
-        tile_size,
-        level_mode: level_mode(*mode)?,
-        rounding_mode: rounding_mode(*rounding)?,
+        tile_size: sizes(tile_size),
+        level_mode: LevelMode::try_from(mode).ok()?,
+        rounding_mode: RoundingMode::try_from(rounding).ok()?,
     };
     let description = LayerDescription {
         layer_position,
-        layer_size,
+        layer_size: sizes(layer_size),
         blocks: BlockDescription::Tiles(tile),
         lines_per_block: 1,
-        line_order: line_order(*order)?,
+        line_order: LineOrder::try_from(order).ok()?,
         deep: false,
         chunk_count: None,
     };
@@ -114,15 +114,14 @@ fn tiles(bytes: &[u8]) -> Option<(Command, &[u8])>
 fn beginning(bytes: &[u8]) -> Option<(Command, &[u8])>
     ensures { seen result ≡ read_command (79 ∷ bytes.now) }
 {
-    let (first_offset, rest) = operand::long(bytes)?;
+    let (first_offset, rest) = u64::read(bytes)?;
     Some((Command::O { first_offset }, rest))
 }
 
 fn placing(bytes: &[u8]) -> Option<(Command, &[u8])>
     ensures { seen result ≡ read_command (80 ∷ bytes.now) }
 {
-    let (number, rest) = operand::long(bytes)?;
-    let (length, rest) = operand::word(rest)?;
+    let ((number, length), rest) = <(u64, u32)>::read(bytes)?;
     Some((
         Command::P {
             number: number as usize,
@@ -135,7 +134,7 @@ fn placing(bytes: &[u8]) -> Option<(Command, &[u8])>
 fn query(bytes: &[u8]) -> Option<(Command, &[u8])>
     ensures { seen result ≡ read_command (81 ∷ bytes.now) }
 {
-    let (number, rest) = operand::long(bytes)?;
+    let (number, rest) = u64::read(bytes)?;
     Some((
         Command::Q {
             number: number as usize,
@@ -147,15 +146,14 @@ fn query(bytes: &[u8]) -> Option<(Command, &[u8])>
 fn line_lookup(bytes: &[u8]) -> Option<(Command, &[u8])>
     ensures { seen result ≡ read_command (89 ∷ bytes.now) }
 {
-    let (y, rest) = operand::int(bytes)?;
+    let (y, rest) = i32::read(bytes)?;
     Some((Command::Y { y }, rest))
 }
 
 fn tile_lookup(bytes: &[u8]) -> Option<(Command, &[u8])>
     ensures { seen result ≡ read_command (88 ∷ bytes.now) }
 {
-    let (tile_index, rest) = operand::ints(bytes)?;
-    let (level_index, rest) = operand::ints(rest)?;
+    let ((tile_index, level_index), rest) = <(Vec2<i32>, Vec2<i32>)>::read(bytes)?;
     Some((
         Command::X {
             tile_index,
@@ -163,57 +161,4 @@ fn tile_lookup(bytes: &[u8]) -> Option<(Command, &[u8])>
         },
         rest,
     ))
-}
-
-// Where a layer lies and how large it is: `S` and `T` both begin with it.
-fn window(bytes: &[u8]) -> Option<((Vec2<i32>, Vec2<usize>), &[u8])>
-    ensures { seen result ≡ taken 16 (ints_at bytes.now 0, words_at bytes.now 8) bytes.now }
-{
-    let (position, rest) = operand::ints(bytes)?;
-    let (size, rest) = operand::sizes(rest)?;
-    Some(((position, size), rest))
-}
-
-// The bytes that name a case.
-fn sample_type(code: u8) -> Option<SampleType>
-    ensures { result ≡ sample_type code }
-{
-    match code {
-        0 => Some(SampleType::U32),
-        1 => Some(SampleType::F16),
-        2 => Some(SampleType::F32),
-        _ => None,
-    }
-}
-
-fn line_order(code: u8) -> Option<LineOrder>
-    ensures { result ≡ line_order code }
-{
-    match code {
-        0 => Some(LineOrder::Increasing),
-        1 => Some(LineOrder::Decreasing),
-        2 => Some(LineOrder::Unspecified),
-        _ => None,
-    }
-}
-
-fn level_mode(code: u8) -> Option<LevelMode>
-    ensures { result ≡ level_mode code }
-{
-    match code {
-        0 => Some(LevelMode::Singular),
-        1 => Some(LevelMode::MipMap),
-        2 => Some(LevelMode::RipMap),
-        _ => None,
-    }
-}
-
-fn rounding_mode(code: u8) -> Option<RoundingMode>
-    ensures { result ≡ rounding_mode code }
-{
-    match code {
-        0 => Some(RoundingMode::Down),
-        1 => Some(RoundingMode::Up),
-        _ => None,
-    }
 }

@@ -23,12 +23,23 @@ long_at bytes at = word_at bytes at + word_at bytes (at + 4) * 4294967296
 abbrev pub int_at : List ℕ → ℕ → ℤ
 int_at bytes at = to_z w32 (word_at bytes at)
 
+-- two values and three, one behind another, each but the last with its width
+abbrev pub both_at : {A B : Type 0} → ℕ → (List ℕ → ℕ → A) → (List ℕ → ℕ → B) → List ℕ → ℕ → A × B
+both_at width first second bytes at = (first bytes at, second bytes (at + width))
+
+abbrev pub three_at : {A B C : Type 0} → ℕ → ℕ → (List ℕ → ℕ → A) → (List ℕ → ℕ → B) → (List ℕ → ℕ → C) → List ℕ → ℕ → A × B × C
+three_at width next first second third bytes at = (first bytes at, second bytes (at + width), third bytes (at + (width + next)))
+
+-- two values of one kind and width
+abbrev pub pair_at : {T : Type 0} → ℕ → (List ℕ → ℕ → T) → List ℕ → ℕ → Vec2 T
+pair_at width part bytes at = record { 0 = part bytes at; 1 = part bytes (at + width) }
+
 -- two signed numbers, and two unsigned ones, from a place on
 abbrev pub ints_at : List ℕ → ℕ → Vec2 ℤ
-ints_at bytes at = record { 0 = int_at bytes at; 1 = int_at bytes (at + 4) }
+ints_at bytes at = pair_at 4 int_at bytes at
 
 abbrev pub words_at : List ℕ → ℕ → Vec2 ℕ
-words_at bytes at = record { 0 = word_at bytes at; 1 = word_at bytes (at + 4) }
+words_at bytes at = pair_at 4 word_at bytes at
 
 -- what a reader answers, with the reference to the bytes that are left seen as these bytes
 abbrev pub seen : {A : Type 0} → Option (A × Bor (List ℕ)) → Option (A × List ℕ)

@@ -1,5 +1,6 @@
 // Fields of fixed widths, read from bytes and written to them.
 #![tactic(auto)]
 
-pub mod read;
+pub mod field;
+pub mod tuple;
 pub mod write;

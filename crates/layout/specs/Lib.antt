@@ -1,4 +1,5 @@
 pub mod Channels
+pub mod Codes
 pub mod Windows
 pub mod Acceptance
 pub mod Asked

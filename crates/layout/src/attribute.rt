@@ -1,8 +1,11 @@
 // What a layer's description is made of.
 ghost use Rattle.std.specs.Prelude.{◌≡◌};
 ghost use Rattle.layout.specs.Channels.{sample_bytes};
+ghost use Rattle.layout.specs.Codes.{level_mode, sample_type};
+ghost use Rattle.numbers.specs.Codes.{decoded};
 
 pub use blocks::line_order::LineOrder;
+use numbers::code::UnknownCode;
 use numbers::rounding::RoundingMode;
 use numbers::vec2::Vec2;
 
@@ -44,6 +47,21 @@ pub struct ChannelDescription {
     pub sampling: Vec2<usize>,
 }
 
+impl TryFrom<u8> for SampleType {
+    type Error = UnknownCode;
+
+    ghost try_from_gives = { λ code result. result ≡ decoded sample_type code };
+
+    fn try_from(code: u8) -> Result<SampleType, UnknownCode> {
+        match code {
+            0 => Ok(SampleType::U32),
+            1 => Ok(SampleType::F16),
+            2 => Ok(SampleType::F32),
+            _ => Err(UnknownCode(code)),
+        }
+    }
+}
+
 impl SampleType {
     pub fn bytes_per_sample(self) -> usize
         ensures { result ≡ sample_bytes self }
@@ -51,6 +69,21 @@ impl SampleType {
         match self {
             SampleType::U32 | SampleType::F32 => 4,
             SampleType::F16 => 2,
+        }
+    }
+}
+
+impl TryFrom<u8> for LevelMode {
+    type Error = UnknownCode;
+
+    ghost try_from_gives = { λ code result. result ≡ decoded level_mode code };
+
+    fn try_from(code: u8) -> Result<LevelMode, UnknownCode> {
+        match code {
+            0 => Ok(LevelMode::Singular),
+            1 => Ok(LevelMode::MipMap),
+            2 => Ok(LevelMode::RipMap),
+            _ => Err(UnknownCode(code)),
         }
     }
 }

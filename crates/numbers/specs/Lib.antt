@@ -1,4 +1,5 @@
 pub mod Refusals
+pub mod Codes
 pub mod Wholes
 pub mod Rounding
 pub mod Logs

@@ -1,6 +1,7 @@
-// Whole numbers, pairs, logarithms and rounded quotients, refusals, and counting along one side of a layer.
+// Whole numbers, pairs, logarithms and rounded quotients, refusals, unknown codes, and counting along one side of a layer.
 #![tactic(auto)]
 
+pub mod code;
 pub mod counts;
 pub mod logs;
 pub mod refusal;

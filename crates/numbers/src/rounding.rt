@@ -1,9 +1,11 @@
 // Rounding down or up, of quotients and of logarithms to base 2.
 ghost use Rattle.std.specs.Prelude.{◌≡◌};
+ghost use Rattle.numbers.specs.Codes.{decoded, rounding_mode};
 ghost use Rattle.numbers.specs.Logs.{log2 as log_of};
 ghost use Rattle.numbers.specs.Refusals.{outcome_as};
 ghost use Rattle.numbers.specs.Rounding.{divided, AnswersRounded};
 
+use crate::code::UnknownCode;
 use crate::logs::{ceil_log_2, floor_log_2};
 use crate::refusal::{Module, Reason, Refusal};
 use crate::whole::Whole;
@@ -12,6 +14,20 @@ use crate::whole::Whole;
 pub enum RoundingMode {
     Down,
     Up,
+}
+
+impl TryFrom<u8> for RoundingMode {
+    type Error = UnknownCode;
+
+    ghost try_from_gives = { λ code result. result ≡ decoded rounding_mode code };
+
+    fn try_from(code: u8) -> Result<RoundingMode, UnknownCode> {
+        match code {
+            0 => Ok(RoundingMode::Down),
+            1 => Ok(RoundingMode::Up),
+            _ => Err(UnknownCode(code)),
+        }
+    }
 }
 
 impl RoundingMode {

@@ -1,5 +1,4 @@
 pub mod Fitting
-pub mod Reading
 pub mod Writing
 pub mod Same
 pub mod Behind

@@ -1,44 +1,21 @@
--- Writing a prefix: what is answered, what the buffer then holds, and that reading gives it back.
-use Rattle.std.proofs.Common.{◌≡◌, ℕ, ◌≤◌, true, cond, leb, List, [], ◌∷◌, ◌++◌, length, drop, ℤ, pos, Some, None, Ok, Err, Option, Result, sym, ap, ◌∙◌, arith, w32, SFits}
+-- A prefix that was written is read again.
+use Rattle.std.proofs.Common.{◌≡◌, ℕ, ◌≤◌, List, [], ◌∷◌, ◌++◌, length, drop, ℤ, pos, Ok, Err, Result, sym, ap, ◌∙◌, arith, w32, SFits}
 use Rattle.std.proofs.lemmas.Bool.{cond-true, le-leb}
-use Rattle.std.specs.Option.{ok_or}
-use Rattle.numbers.specs.Refusals.{Told, outcome, refused}
+use Rattle.numbers.specs.Refusals.{Told}
 use Rattle.numbers.specs.declared.refusal.Refusal.{Refusal}
 use Rattle.numbers.specs.declared.vec2.Vec2.{Vec2}
-use Rattle.fields.specs.Bytes.{int_at, ints_bytes, over}
+use Rattle.fields.specs.Bytes.{int_at, ints_bytes}
 use Rattle.fields.proofs.Back.{int_back}
 use Rattle.schemes.specs.declared.level.Naming.TheVariants as by
-use Rattle.prefixes.specs.Bytes.{ComesBack, buffer_with, naming_of, prefix_fields, prefix_read, size_of, written, with_length}
+use Rattle.prefixes.specs.Bytes.{ComesBack, buffer_with, naming_of, prefix_fields, prefix_read, size_of, with_length}
 use Rattle.prefixes.specs.declared.coordinates.BlockCoordinates.{BlockCoordinates}
 use Rattle.prefixes.specs.declared.coordinates.BlockCoordinates.TheVariants.{Line, Tile}
 use Rattle.prefixes.specs.declared.prefix.Prefix.{Prefix}
 
--- what a write answers and leaves, where there is room and the length is small
-pub wrote : (p : Prefix) (old new : List ℕ) (bytes : ℕ) (zs : List ℤ) (o : Option ℕ) (r : Result ℕ Refusal) →
-    zs ≡ prefix_fields p → bytes ≡ size_of p → size_of p ≤ length old → p.data_length ≤ 2147483647 →
-    o ≡ cond (leb bytes (length old)) (Some bytes) None → new ≡ over (ints_bytes zs) old → outcome r ≡ ok_or o (refused 20 5 0) →
-    (outcome r ≡ written p old) × (new ≡ buffer_with p old)
-wrote p old new bytes zs o r ez eb room short eo en er =
-    let fits : leb (size_of p) (length old) ≡ true = le-leb _ _ room in
-    let few : leb p.data_length 2147483647 ≡ true = le-leb p.data_length 2147483647 short in
-    let some : o ≡ Some (size_of p) = eo ∙ ap (λ n. cond (leb n (length old)) (Some n) None) eb ∙ cond-true _ _ _ fits in (
-      er ∙ ap (λ x. ok_or x (refused 20 5 0)) some ∙ sym (cond-true _ _ _ fits ∙ cond-true _ _ _ few),
-      en ∙ ap (λ x. over (ints_bytes x) old) ez ∙ sym (cond-true _ _ _ few),
-    )
-
 abbrev with : Prefix → BlockCoordinates → Prefix
 with p x = record { coordinates = x; data_length = p.data_length }
 
--- the fields as they were written
-pub line_fields : (p : Prefix) (y a b : ℤ) → p.coordinates ≡ Line y → a ≡ y → b ≡ pos p.data_length → a ∷ (b ∷ []) ≡ prefix_fields p
-line_fields p y a b is ea eb =
-    ap (λ v. v ∷ (b ∷ [])) ea ∙ ap (λ v. y ∷ (v ∷ [])) eb ∙ ap (λ x. prefix_fields (with p x)) (sym is)
-
-pub tile_fields : (p : Prefix) (t l : Vec2 ℤ) (a : ℤ) → p.coordinates ≡ Tile t l → a ≡ pos p.data_length → t.0 ∷ (t.1 ∷ (l.0 ∷ (l.1 ∷ (a ∷ [])))) ≡ prefix_fields p
-tile_fields p t l a is ea =
-    ap (λ v. t.0 ∷ (t.1 ∷ (l.0 ∷ (l.1 ∷ (v ∷ []))))) ea ∙ ap (λ x. prefix_fields (with p x)) (sym is)
-
-pub size_as : (p : Prefix) (c : BlockCoordinates) → p.coordinates ≡ c → size_of (with p c) ≡ size_of p
+size_as : (p : Prefix) (c : BlockCoordinates) → p.coordinates ≡ c → size_of (with p c) ≡ size_of p
 size_as p c is = ap (λ x. size_of (with p x)) (sym is)
 
 few : (n : ℕ) → n ≤ 2147483647 → SFits w32 (pos n)

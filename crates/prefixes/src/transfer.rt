@@ -1,15 +1,14 @@
 // Prefixes written to a lent buffer and read from lent bytes.
-ghost use Rattle.std.specs.Prelude.{◌≡◌, [], ◌∷◌, length as bytes_in, if◌then◌else◌, Some, None, nat_le};
-ghost use Rattle.fields.specs.Bytes.{int_at, ints_at, ints_bytes, over};
-ghost use Rattle.numbers.specs.Refusals.{outcome, refused};
+ghost use Rattle.std.specs.Prelude.{◌≡◌, length as bytes_in, if◌then◌else◌, Some, None, nat_le};
+ghost use Rattle.fields.specs.Bytes.{int_at, ints_at};
+ghost use Rattle.numbers.specs.Refusals.{outcome};
 ghost use Rattle.prefixes.specs.Bytes.{ComesBack, buffer_with, prefix_read, written};
 ghost use Rattle.prefixes.specs.declared.coordinates.BlockCoordinates.TheVariants.{Line as at_line, Tile as at_tile};
-ghost use Rattle.std.specs.Option.{ok_or};
 
 use crate::coordinates::BlockCoordinates;
 use crate::naming::prefix_size;
 use crate::prefix::Prefix;
-use fields::read;
+use fields::field::Field;
 use fields::write::write_ints;
 use numbers::refusal::{Module, Reason, Refusal};
 use numbers::vec2::Vec2;
@@ -32,16 +31,14 @@ const DATA_TOO_LONG: Refusal = Refusal {
 fn read_line(bytes: &[u8]) -> Option<(BlockCoordinates, i32)>
     ensures { result ≡ (if nat_le 8 (bytes_in bytes.now) then Some (at_line (int_at bytes.now 0), int_at bytes.now 4) else None) }
 {
-    let (y, rest) = read::int(bytes)?;
-    let (data_length, _) = read::int(rest)?;
+    let ((y, data_length), _) = <(i32, i32)>::read(bytes)?;
     Some((BlockCoordinates::Line { y }, data_length))
 }
 
 fn read_tile(bytes: &[u8]) -> Option<(BlockCoordinates, i32)>
     ensures { result ≡ (if nat_le 20 (bytes_in bytes.now) then Some (at_tile (ints_at bytes.now 0) (ints_at bytes.now 8), int_at bytes.now 16) else None) }
 {
-    let ((tile_index, level_index), rest) = read::int_pairs(bytes)?;
-    let (data_length, _) = read::int(rest)?;
+    let ((tile_index, level_index, data_length), _) = <(Vec2<i32>, Vec2<i32>, i32)>::read(bytes)?;
     Some((
         BlockCoordinates::Tile {
             tile_index,
@@ -68,33 +65,7 @@ impl Prefix {
             _ => Err(UNREADABLE),
         }
     }
-}
 
-// Bytes that were not written had no room.
-fn told(count: Option<usize>) -> Result<usize, Refusal>
-    ensures { outcome result ≡ ok_or count (refused 20 5 0) }
-{
-    match count {
-        Some(count) => Ok(count),
-        None => Err(UNREADABLE),
-    }
-}
-
-fn write_line(buffer: &mut [u8], y: i32, length: i32) -> Option<usize>
-    ensures answer { result ≡ (if nat_le 8 (bytes_in buffer.old) then Some 8 else None) }
-    ensures written { buffer.new ≡ over (ints_bytes (y ∷ (length ∷ []))) buffer.old }
-{
-    write_ints(buffer, &[y, length])
-}
-
-fn write_tile(buffer: &mut [u8], tile: Vec2<i32>, level: Vec2<i32>, length: i32) -> Option<usize>
-    ensures answer { result ≡ (if nat_le 20 (bytes_in buffer.old) then Some 20 else None) }
-    ensures written { buffer.new ≡ over (ints_bytes (tile.0 ∷ (tile.1 ∷ (level.0 ∷ (level.1 ∷ (length ∷ [])))))) buffer.old }
-{
-    write_ints(buffer, &[tile.0, tile.1, level.0, level.1, length])
-}
-
-impl Prefix {
     // Writes the first bytes and no later ones; a refusal writes nothing. Answers how many bytes it wrote.
     pub fn write(self, buffer: &mut [u8]) -> Result<usize, Refusal>
         ensures answer { outcome result ≡ written self buffer.old }
@@ -108,12 +79,13 @@ impl Prefix {
             return Err(DATA_TOO_LONG);
         }
         let data_length = self.data_length as i32;
-        match self.coordinates {
-            BlockCoordinates::Line { y } => told(write_line(buffer, y, data_length)),
+        let count = match self.coordinates {
+            BlockCoordinates::Line { y } => write_ints(buffer, &[y, data_length]),
             BlockCoordinates::Tile {
-                tile_index,
-                level_index,
-            } => told(write_tile(buffer, tile_index, level_index, data_length)),
-        }
+                tile_index: tile,
+                level_index: level,
+            } => write_ints(buffer, &[tile.0, tile.1, level.0, level.1, data_length]),
+        };
+        count.ok_or(UNREADABLE)
     }
 }

@@ -1,6 +1,0 @@
-use Rattle.std.proofs.Common.{rules}
-use Rattle.commands.proofs.Taken.{takes}
-use Rattle.commands.proofs.operand.half.Goals as goal
-
-pub returns : goal.returns
-returns c = takes 2 _ _ c.args.bytes.now (search rules) (search rules)
