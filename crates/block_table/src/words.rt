@@ -1,10 +1,11 @@
 // The numbers of a line, and the layer that they describe.
 ghost use Rattle.std.specs.Prelude.{◌≡◌};
-ghost use Rattle.block_table.specs.Words.{int, level_mode, line_order, rounding_mode, size};
+ghost use Rattle.block_table.specs.Words.{int, size};
 
 use blocks::line_order::LineOrder;
 use layout::attribute::{BlockDescription, LevelMode, TileDescription};
 use layout::description::LayerDescription;
+use numbers::code::UnknownCode;
 use numbers::rounding::RoundingMode;
 use numbers::vec2::Vec2;
 use std::alloc::{AllocError, Global};
@@ -28,33 +29,10 @@ pub(crate) fn size(number: i64) -> usize
     usize::try_from(number).unwrap_or(0)
 }
 
-fn line_order(code: i64) -> LineOrder
-    ensures { result ≡ line_order code }
-{
-    match code {
-        0 => LineOrder::Increasing,
-        1 => LineOrder::Decreasing,
-        _ => LineOrder::Unspecified,
-    }
-}
-
-fn level_mode(code: i64) -> LevelMode
-    ensures { result ≡ level_mode code }
-{
-    match code {
-        0 => LevelMode::Singular,
-        1 => LevelMode::MipMap,
-        _ => LevelMode::RipMap,
-    }
-}
-
-fn rounding_mode(code: i64) -> RoundingMode
-    ensures { result ≡ rounding_mode code }
-{
-    match code {
-        0 => RoundingMode::Down,
-        _ => RoundingMode::Up,
-    }
+// The case that a number names, or the last one.
+fn case<T: TryFrom<u8, Error = UnknownCode> + Drop>(code: i64, last: T) -> T {
+    let code = u8::try_from(code).ok();
+    code.and_then(|code| T::try_from(code).ok()).unwrap_or(last)
 }
 
 // X Y W H LINES ORDER are scan lines, X Y W H LINES TW TH MODE ROUNDING ORDER tiles.
@@ -66,8 +44,8 @@ pub(crate) fn described(numbers: &[i64]) -> Option<LayerDescription> {
         [] => BlockDescription::ScanLines,
         [width, height, mode, rounding] => BlockDescription::Tiles(TileDescription {
             tile_size: Vec2(size(*width), size(*height)),
-            level_mode: level_mode(*mode),
-            rounding_mode: rounding_mode(*rounding),
+            level_mode: case(*mode, LevelMode::RipMap),
+            rounding_mode: case(*rounding, RoundingMode::Up),
         }),
         _ => return None,
     };
@@ -76,7 +54,7 @@ pub(crate) fn described(numbers: &[i64]) -> Option<LayerDescription> {
         layer_size: Vec2(size(*w), size(*h)),
         blocks,
         lines_per_block: size(*lines),
-        line_order: line_order(*order),
+        line_order: case(*order, LineOrder::Unspecified),
         deep: false,
         chunk_count: None,
     })
