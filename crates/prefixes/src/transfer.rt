@@ -14,8 +14,6 @@ use numbers::refusal::{Module, Reason, Refusal};
 use numbers::vec2::Vec2;
 use schemes::level::Naming;
 
-const LARGEST_DATA_LENGTH: usize = 2147483647;
-
 pub(crate) const UNREADABLE: Refusal = Refusal {
     reason: Reason::UnreadableBytes,
     module: Module::Prefixes,
@@ -57,13 +55,12 @@ impl Prefix {
             Naming::Line => read_line(bytes),
             Naming::Tile => read_tile(bytes),
         };
-        match fields {
-            Some((coordinates, data_length)) if data_length >= 0 => Ok(Prefix {
-                coordinates,
-                data_length: data_length as usize,
-            }),
-            _ => Err(UNREADABLE),
-        }
+        let (coordinates, data_length) = fields.ok_or(UNREADABLE)?;
+        let data_length = usize::try_from(data_length).ok().ok_or(UNREADABLE)?;
+        Ok(Prefix {
+            coordinates,
+            data_length,
+        })
     }
 
     // Writes the first bytes and no later ones; a refusal writes nothing. Answers how many bytes it wrote.
@@ -75,10 +72,7 @@ impl Prefix {
         if buffer.len() < prefix_size(self.coordinates.naming()) {
             return Err(UNREADABLE);
         }
-        if self.data_length > LARGEST_DATA_LENGTH {
-            return Err(DATA_TOO_LONG);
-        }
-        let data_length = self.data_length as i32;
+        let data_length = i32::try_from(self.data_length).ok().ok_or(DATA_TOO_LONG)?;
         let count = match self.coordinates {
             BlockCoordinates::Line { y } => write_ints(buffer, &[y, data_length]),
             BlockCoordinates::Tile {

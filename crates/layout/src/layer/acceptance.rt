@@ -36,9 +36,9 @@ impl Layer {
         ensures bytes { TakesItsChannels channels.now result }
         ensures lines { KeepsItsLines description result }
     {
-        if let Err(reason) = description.check(channels.len()) {
-            return Err(Refusal::new(reason, Module::Layers));
-        }
+        description
+            .check(channels.len())
+            .map_err(|reason| Refusal::new(reason, Module::Layers))?;
         description.check_channels(channels)?;
         let Some(scheme) = description.scheme() else {
             unreachable()

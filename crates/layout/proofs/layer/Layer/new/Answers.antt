@@ -1,6 +1,9 @@
-use Rattle.std.proofs.Common.{◌≡◌, ◌*◌, length, Ok, Err, refl, sym, ap, ◌∙◌, subst, arith}
+use Rattle.std.proofs.Common.{◌≡◌, ℕ, ◌*◌, true, length, Ok, Err, None, Option, Result, refl, sym, ap, ◌∙◌, subst, arith}
 use Rattle.std.proofs.lemmas.Bool.{cond-true, cond-false}
-use Rattle.numbers.specs.Refusals.{told}
+use Rattle.std.specs.Result.{is_ok, result_err}
+use Rattle.numbers.specs.Refusals.{number_of, told}
+use Rattle.numbers.specs.Wholes.{optional}
+use Rattle.numbers.specs.declared.refusal.Reason.{Reason}
 use Rattle.numbers.specs.declared.refusal.Refusal.{Refusal}
 use Rattle.schemes.specs.Blocks.{chunks_in, pixel_count}
 use Rattle.schemes.specs.Meanings.{Meaning}
@@ -10,31 +13,36 @@ use Rattle.schemes.specs.Windows.{Placed}
 use Rattle.layout.proofs.Accepting.{kept, placed, meant, never_absent, counted, few_lines, over_channels, same_laid, some_bytes}
 use Rattle.layout.proofs.layer.Layer.new.Goals as goal
 
+-- where the rules were kept, none is broken
+unbroken : (r : Result (Unit {0}) Reason) (o : Option ℕ) → true ≡ is_ok r → optional number_of (result_err r) ≡ o → None ≡ o
+unbroken (Ok x) o e f = f
+unbroken (Err why) o e f = let z : ◌≡◌ {A = ℕ} 0 1 = cc in let none : ⊥ = omega arith in elim none [ ]
+
 pub unreachable-requires : goal.unreachable-requires
 unreachable-requires c =
     let d = c.args.description in
     let n = length c.args.channels.now in
-    never_absent d n (kept d n c.in_default.ensures) c.in_default-scheme.ensures
+    never_absent d n (kept d n (unbroken c.check.result _ c.in_ok-map_err.ensures.variant c.check.ensures)) c.in_default.ensures
 
 pub bytes_per_pixel-requires : goal.bytes_per_pixel-requires
-bytes_per_pixel-requires c = (kept c.args.description (length c.args.channels.now) c.in_default.ensures).few
+bytes_per_pixel-requires c = (kept c.args.description (length c.args.channels.now) (unbroken c.check.result _ c.in_ok-map_err.ensures.variant c.check.ensures)).few
 
 pub returns-then-not-is_stated-clause-value : goal.returns-then-not-is_stated-clause-value
 returns-then-not-is_stated-clause-value c =
     let d = c.args.description in
     let cs = c.args.channels.now in
-    let k = kept d (length cs) c.in_default.ensures in
+    let k = kept d (length cs) (unbroken c.check.result _ c.in_ok-map_err.ensures.variant c.check.ensures) in
     let m : any_meaning c.in-Some.scheme ≡ meaning_of d = meant d (length cs) k c.in-Some.scheme c.in-Some.ensures in
     let n : c.compute_chunk_count-chunk_count.result ≡ chunks_in (meaning_of d) = c.compute_chunk_count-chunk_count.ensures ∙ ap chunks_in m in
-    ap (λ (why : Refusal). Err (told why)) c.new-then-not-is_stated.ensures
-    ∙ sym (counted d cs c.in_default.ensures c.in_ok-check_channels.ensures
+    ap (λ (why : Refusal). Err (told why)) c.new.ensures
+    ∙ sym (counted d cs (unbroken c.check.result _ c.in_ok-map_err.ensures.variant c.check.ensures) c.in_ok-check_channels.ensures
     ∙ cond-false _ _ _ (ap (states d.chunk_count) (sym n) ∙ sym c.is_stated.ensures ∙ c.if-not-is_stated.true))
 
 pub invariant_of-result : goal.invariant_of-result
 invariant_of-result c =
     let d = c.args.description in
     let cs = c.args.channels.now in
-    let k = kept d (length cs) c.in_default.ensures in
+    let k = kept d (length cs) (unbroken c.check.result _ c.in_ok-map_err.ensures.variant c.check.ensures) in
     let m : any_meaning c.in-Some.scheme ≡ meaning_of d = meant d (length cs) k c.in-Some.scheme c.in-Some.ensures in
     let some = some_bytes cs k.some in
     record {
@@ -48,12 +56,12 @@ pub returns : goal.returns
 returns c =
     let d = c.args.description in
     let cs = c.args.channels.now in
-    let k = kept d (length cs) c.in_default.ensures in
+    let k = kept d (length cs) (unbroken c.check.result _ c.in_ok-map_err.ensures.variant c.check.ensures) in
     let m : any_meaning c.in-Some.scheme ≡ meaning_of d = meant d (length cs) k c.in-Some.scheme c.in-Some.ensures in
     let n : c.compute_chunk_count-chunk_count.result ≡ chunks_in (meaning_of d) = c.compute_chunk_count-chunk_count.ensures ∙ ap chunks_in m in
     record {
       value = ap Ok (same_laid d cs _ _ _ m c.bytes_per_pixel.ensures n)
-          ∙ sym (counted d cs c.in_default.ensures c.in_ok-check_channels.ensures
+          ∙ sym (counted d cs (unbroken c.check.result _ c.in_ok-map_err.ensures.variant c.check.ensures) c.in_ok-check_channels.ensures
           ∙ cond-true _ _ _ (ap (states d.chunk_count) (sym n) ∙ sym c.is_stated.ensures ∙ c.if-not-is_stated.false));
       bytes = ap (λ b. pixel_count (any_meaning c.in-Some.scheme) * b) c.bytes_per_pixel.ensures ∙ sym (over_channels (pixel_count (any_meaning c.in-Some.scheme)) cs);
       lines = refl;

@@ -11,17 +11,18 @@ returns-clause-back c =
     let old = c.args.buffer.now in
     let new = c.match-self.buffer in
     let sized : c.prefix_size.result ≡ size_of p = c.prefix_size.ensures ∙ ap prefix_size c.naming.ensures in
+    let short : p.data_length ≤ 2147483647 = search rules in
     let room : size_of p ≤ length old = omega arith in
     elim c.match-self.branch [
       | in-Line w ↦
           let y : SFits w32 w.in-Line.y = search rules in
           let holds : new ≡ buffer_with p old = search rules in
-          line_comes p w.in-Line.y old new c.ok_or.result w.in-Line.is y room (omega arith) holds
+          line_comes p w.in-Line.y old new c.ok_or-2.result w.in-Line.is y room short holds
       | in-Tile w ↦
           let tx : SFits w32 w.in-Tile.tile.0 = search rules in
           let ty : SFits w32 w.in-Tile.tile.1 = search rules in
           let lx : SFits w32 w.in-Tile.level.0 = search rules in
           let ly : SFits w32 w.in-Tile.level.1 = search rules in
           let holds : new ≡ buffer_with p old = search rules in
-          tile_comes p w.in-Tile.tile w.in-Tile.level old new c.ok_or.result w.in-Tile.is tx ty lx ly room (omega arith) holds
+          tile_comes p w.in-Tile.tile w.in-Tile.level old new c.ok_or-2.result w.in-Tile.is tx ty lx ly room short holds
     ]
