@@ -41,7 +41,7 @@ pub struct LayerDescription {
 fn good_lines(lines: usize) -> bool
     ensures { result ≡ good_lines lines }
 {
-    lines == 1 || lines == 16 || lines == 32 || lines == 256
+    matches!(lines, 1 | 16 | 32 | 256)
 }
 
 // Whether a tile can be this large; scan lines have no tiles.

@@ -6,8 +6,6 @@ ghost use Rattle.numbers.specs.Refusals.{outcome};
 use crate::refusal::{Module, Reason, Refusal};
 use crate::rounding::RoundingMode;
 
-const LARGEST_COUNTED_SIDE: usize = 4294967295;
-
 pub const LARGEST_LEVEL_INDEX: usize = 63;
 
 const PAST_TOTAL: Refusal = Refusal {
@@ -54,11 +52,10 @@ pub fn calculate_block_position_and_size(
 pub fn compute_level_count(round: RoundingMode, full_res: usize) -> Result<usize, Refusal>
     ensures { outcome result ≡ level_count round full_res }
 {
-    if full_res <= LARGEST_COUNTED_SIDE {
-        Ok(round.log2(full_res as u32) as usize + 1)
-    } else {
-        Err(Refusal::new(Reason::NumberOutOfRange, Module::Sides))
-    }
+    let full_res = u32::try_from(full_res)
+        .ok()
+        .ok_or(Refusal::new(Reason::NumberOutOfRange, Module::Sides))?;
+    Ok(round.log2(full_res) as usize + 1)
 }
 
 pub fn compute_level_size(
