@@ -4,7 +4,6 @@ ghost use Rattle.commands.specs.Commands.{read_command};
 ghost use Rattle.fields.specs.Bytes.{seen};
 
 use fields::field::Field;
-use fields::tuple::sizes;
 use layout::attribute::{BlockDescription, LevelMode, LineOrder, SampleType, TileDescription};
 use layout::description::LayerDescription;
 use numbers::rounding::RoundingMode;
@@ -79,7 +78,7 @@ fn scan_lines(bytes: &[u8]) -> Option<(Command, &[u8])>
     let (((layer_position, layer_size), lines, order), rest) = <(Window, u16, u8)>::read(bytes)?;
     let description = LayerDescription {
         layer_position,
-        layer_size: sizes(layer_size),
+        layer_size: layer_size.into(),
         blocks: BlockDescription::ScanLines,
         lines_per_block: usize::from(lines),
         line_order: LineOrder::try_from(order).ok()?,
@@ -95,13 +94,13 @@ fn tiles(bytes: &[u8]) -> Option<(Command, &[u8])>
     let ((window, tile_size, (mode, rounding, order)), rest) = Tiling::read(bytes)?;
     let (layer_position, layer_size) = window;
     let tile = TileDescription {
-        tile_size: sizes(tile_size),
+        tile_size: tile_size.into(),
         level_mode: LevelMode::try_from(mode).ok()?,
         rounding_mode: RoundingMode::try_from(rounding).ok()?,
     };
     let description = LayerDescription {
         layer_position,
-        layer_size: sizes(layer_size),
+        layer_size: layer_size.into(),
         blocks: BlockDescription::Tiles(tile),
         lines_per_block: 1,
         line_order: LineOrder::try_from(order).ok()?,

@@ -46,11 +46,3 @@ impl<T: Field> Field for Vec2<T> {
         Some((Vec2(x, y), rest))
     }
 }
-
-// A size is stored in four bytes.
-pub fn sizes(stored: Vec2<u32>) -> Vec2<usize>
-    ensures { result ≡ stored }
-{
-    let Vec2(width, height) = stored;
-    Vec2(width as usize, height as usize)
-}

@@ -31,6 +31,16 @@ impl<T: Whole + Drop> Vec2<T> {
     }
 }
 
+// 64 bits hold what 32 bits hold.
+impl From<Vec2<u32>> for Vec2<usize> {
+    ghost from_gives = { λ pair sizes. sizes ≡ pair };
+
+    fn from(pair: Vec2<u32>) -> Vec2<usize> {
+        let Vec2(width, height) = pair;
+        Vec2(width as usize, height as usize)
+    }
+}
+
 // Why a pair has no counterpart of another kind.
 #[derive(Clone, Copy, PartialEq, Eq, Debug)]
 pub struct OutOfRange;
