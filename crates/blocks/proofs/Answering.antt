@@ -1,5 +1,5 @@
 -- What an answer about a number tells of its block.
-use Rattle.std.proofs.Common.{◌≡◌, ℕ, Some, None, Ok, Err, Option, Result, sym, ap, ◌∙◌, inl, inr, arith}
+use Rattle.std.proofs.Common.{◌≡◌, ℕ, Some, None, Ok, Err, Option, Result, ap, ◌∙◌, inl, inr, arith}
 use Rattle.std.specs.List.{slice_get}
 use Rattle.std.specs.Result.{result_ok}
 use Rattle.numbers.specs.Refusals.{Told, outcome, refused, told}
@@ -30,10 +30,6 @@ answered m n b e = elim (some_cases (slice_get (all_blocks m) n)) [
 pub is_listed : (m : Meaning) (n : ℕ) (b : Block) → Ok b ≡ of_block m n (λ x. x) → IsBlock m b × (number_of m b ≡ n)
 is_listed m n b e = (numbered m).listed n b (answered m n b e)
 
--- anything else that is told of that block
-pub tells : {A : Type 0} (f : Block → A) (m : Meaning) (n : ℕ) (b : Block) → Ok b ≡ of_block m n (λ x. x) → of_block m n f ≡ Ok (f b)
-tells f m n b e = ap (of f) (answered m n b e)
-
 -- where no block was answered there is none, and anything else is refused alike
 pub no_block : (m : Meaning) (n : ℕ) (why : Told) → Err why ≡ of_block m n (λ x. x) → slice_get (all_blocks m) n ≡ None
 no_block m n why e = elim (some_cases (slice_get (all_blocks m) n)) [
@@ -49,9 +45,6 @@ pub refused_by : (m : Meaning) (n : ℕ) (why : Told) → Err why ≡ of_block m
 refused_by m n why e =
     let g : of_block m n (λ x. x) ≡ Err (refused 23 3 0) = ap (of (λ x. x)) (no_block m n why e) in
     cc
-
-pub refuses : {A : Type 0} (f : Block → A) (m : Meaning) (n : ℕ) (why : Told) → Err why ≡ of_block m n (λ x. x) → ◌≡◌ {A = Result A Told} (Err why) (of_block m n f)
-refuses f m n why e = ap Err (refused_by m n why e) ∙ sym (ap (of f) (no_block m n why e))
 
 -- the same of an answer that was made an `Option`
 pub kept : (m : Meaning) (n : ℕ) (r : Result Block Refusal) (b : Block) → Some b ≡ result_ok r → outcome r ≡ of_block m n (λ x. x) → Ok b ≡ of_block m n (λ x. x)

@@ -1,7 +1,6 @@
 -- The bytes of fields, written one after another over what a buffer held.
-use Rattle.std.proofs.Common.{◌≡◌, ℕ, ◌+◌, ◌-◌, ◌*◌, ◌<◌, ◌≤◌, true, cond, leb, List, [], ◌∷◌, ◌++◌, length, get_or, take, drop, ℤ, pos, Some, None, sym, refl, ap, ◌∙◌, append_assoc, arith, drop-drop}
-use borrow.Rule.Slice.PartMut.{put_mid}
-use Rattle.std.proofs.lemmas.List.{take_at, take_more, take_all, drop_at, length-take-le}
+use Rattle.std.proofs.Common.{◌≡◌, ℕ, ◌+◌, ◌*◌, ◌<◌, cond, leb, List, [], ◌∷◌, ◌++◌, length, get_or, take, drop, ℤ, pos, Some, None, sym, refl, ap, ◌∙◌, append_assoc, arith, drop-drop}
+use Rattle.std.proofs.lemmas.List.{take_at, take_more, drop_at, length-take-le}
 use Rattle.std.proofs.lemmas.Bool.Decides.{nat_tests}
 use Rattle.fields.specs.Bytes.{int_bytes, ints_bytes, over}
 
@@ -15,10 +14,6 @@ ints_bytes_append : (ys zs : List ℤ) → ints_bytes (ys ++ zs) ≡ ints_bytes 
 ints_bytes_append [] zs = refl
 ints_bytes_append (y ∷ ys) zs = ap (λ bytes. int_bytes y ++ bytes) (ints_bytes_append ys zs)
 
--- four bytes copied over those from a place on
-pub placed : (at : ℕ) (new put old : List ℕ) → put ≡ new → put_mid at (at + 4 - at) old put ≡ take at old ++ (new ++ drop (at + 4) old)
-placed at new put old same = let k : at + (at + 4 - at) ≡ at + 4 = omega arith in rw (same, drop-drop, k)
-
 -- the fields so far, and the next one written behind them
 pub written_more : (i : ℕ) (zs : List ℤ) (z : ℤ) (old sofar next : List ℕ) → i < length zs → z ≡ get_or zs i (pos 0) → sofar ≡ ints_bytes (take i zs) ++ drop (4 * i) old → next ≡ take (4 * i) sofar ++ (int_bytes z ++ drop (4 * i + 4) sofar) → next ≡ ints_bytes (take (i + 1) zs) ++ drop (4 * (i + 1)) old
 written_more i zs z old sofar next below here before after =
@@ -30,17 +25,6 @@ written_more i zs z old sofar next below here before after =
     let rest : drop (4 * i + 4) sofar ≡ drop (4 * i + 4) old = sym (drop-drop 4 (4 * i) sofar) ∙ ap (drop 4) behind ∙ drop-drop 4 (4 * i) old in
     let more : ints_bytes (take (i + 1) zs) ≡ bytes ++ int_bytes z = ap ints_bytes (take_more zs i (pos 0) below) ∙ ints_bytes_append (take i zs) (get_or zs i (pos 0) ∷ []) ∙ ap (λ x. bytes ++ int_bytes x) (sym here) in
     after ∙ rw (front, rest, place, more, append_assoc)
-
--- where all the fields fit: the answer, and what the buffer then holds
-pub some_fit : (count : ℕ) (zs : List ℤ) (old : List ℕ) → count ≡ 4 * length zs → count ≤ length old → Some count ≡ cond (leb (length (ints_bytes zs)) (length old)) (Some (length (ints_bytes zs))) None
-some_fit count zs old many room = let n = length_ints zs in grind (arith, nat_tests)
-
-pub written_all : (i : ℕ) (zs : List ℤ) (old new : List ℕ) → i ≡ length zs → 4 * length zs ≤ length old → new ≡ ints_bytes (take i zs) ++ drop (4 * i) old → new ≡ over (ints_bytes zs) old
-written_all i zs old new end room last =
-    let many = length_ints zs in
-    let t : leb (4 * length zs) (length old) ≡ true = grind (arith, nat_tests) in
-    let all : take (length zs) zs ≡ zs = take_all _ _ (omega arith) in
-    last ∙ rw (end, all, many, t)
 
 -- where they don't: no answer, and the buffer is as it was
 pub none_fit : (zs : List ℤ) (old : List ℕ) → length old < 4 * length zs → None ≡ cond (leb (length (ints_bytes zs)) (length old)) (Some (length (ints_bytes zs))) None

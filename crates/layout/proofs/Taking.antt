@@ -1,5 +1,5 @@
 -- A stretch of a list, taken from either end.
-use Rattle.std.proofs.Common.{◌≡◌, ℕ, zero, suc, ◌+◌, ◌-◌, ◌<◌, ◌≤◌, List, [], ◌∷◌, length, take, drop, sym, refl, ap, ◌∙◌, add-zero, zero-add, arith, length-drop, take_all, drop-drop}
+use Rattle.std.proofs.Common.{◌≡◌, ℕ, zero, suc, ◌+◌, ◌-◌, ◌<◌, ◌≤◌, List, [], ◌∷◌, length, take, drop, sym, refl, ap, ◌∙◌, zero-add, arith, length-drop, take_all, drop-drop}
 use Rattle.std.proofs.lemmas.List.{drop-take, length-map, length-take-le, take-take}
 use Rattle.std.specs.List.{slice_get}
 use Rattle.schemes.specs.Blocks.{chunks_in}
@@ -33,9 +33,6 @@ stretch_all xs n e = take_all (n - 0) xs (omega arith)
 
 pub stretch_length : {X : Type 0} (xs : List X) (f b : ℕ) → f ≤ b → b ≤ length xs → length (stretch xs f b) ≡ b - f
 stretch_length xs f b h k = length-take-le (b - f) (drop f xs) (simp length-drop (omega arith))
-
-pub stretch_first : {X : Type 0} (xs : List X) (f b : ℕ) → f < b → slice_get (stretch xs f b) 0 ≡ slice_get xs f
-stretch_first xs f b h = nth_take (drop f xs) (b - f) 0 (omega arith) ∙ nth_drop xs f 0 ∙ ap (slice_get xs) (add-zero f)
 
 pub stretch_last : {X : Type 0} (xs : List X) (f b : ℕ) → f < b → slice_get (stretch xs f b) (b - f - 1) ≡ slice_get xs (b - 1)
 stretch_last xs f b h =

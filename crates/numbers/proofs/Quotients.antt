@@ -1,10 +1,9 @@
 -- Rounded quotients of signed numbers.
-use Rattle.std.proofs.Common.{◌≡◌, ℕ, zero, suc, ◌+◌, ◌/◌, ◌^◌, ◌<◌, true, false, ◌&&◌, ℤ, pos, negsuc, ◌+ℤ◌, ◌-ℤ◌, Some, Ok, Err, sym, refl, ap, ◌∙◌, zero-le, add-mul, div-le_self, arith, w32, SFits, to_z, of_z}
+use Rattle.std.proofs.Common.{◌≡◌, ℕ, zero, suc, ◌+◌, ◌/◌, ◌^◌, ◌<◌, true, false, ◌&&◌, ℤ, pos, negsuc, ◌+ℤ◌, ◌-ℤ◌, Some, sym, refl, ap, ◌∙◌, zero-le, add-mul, div-le_self, arith, w32, SFits, to_z, of_z}
 use lib.Signed.{le_z, lt_z, quot_z}
 use Rattle.std.proofs.lemmas.Int.{ints, to_z_pos}
 use Rattle.std.proofs.lemmas.Bool.{and_from, le-leb, cond-true}
-use Rattle.numbers.specs.Refusals.{Told}
-use Rattle.numbers.specs.Rounding.{ceiling, rounded, quotient, divided}
+use Rattle.numbers.specs.Rounding.{ceiling, rounded, quotient}
 use Rattle.numbers.specs.declared.rounding.RoundingMode.{RoundingMode}
 use Rattle.numbers.specs.declared.rounding.RoundingMode.TheVariants.{Down, Up}
 use Rattle.numbers.proofs.Powers.{rounded_is, only_one}
@@ -41,12 +40,3 @@ up_by_one_less (pos (suc a)) (pos zero) f g l m n = grind arith
 up_by_one_less (pos zero) y f g l m n = elim (n refl) [ ]
 up_by_one_less (pos (suc a)) (negsuc b) f g l m n = grind arith
 up_by_one_less (negsuc a) y f g l m n = grind arith
-
--- a positive divisor is not refused
-pub never_refused : {P : Type 0} (m : RoundingMode) (a b : ℕ) (t : Told) → 0 < b → Err t ≡ divided m (pos a) (pos b) → P
-never_refused m a zero t h e = let none : ⊥ = omega arith in elim none [ ]
-never_refused m a (suc b) t h e =
-    let f : Err t ≡ Ok (pos (rounded m a (suc b))) = e ∙ cond-true _ _ _ (may_divide a b) in
-    let z : ◌≡◌ {A = ℕ} 0 1 = cc in
-    let none : ⊥ = omega arith in
-    elim none [ ]

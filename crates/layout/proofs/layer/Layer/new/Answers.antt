@@ -1,4 +1,4 @@
-use Rattle.std.proofs.Common.{◌≡◌, ℕ, ◌*◌, true, length, Ok, Err, None, Option, Result, refl, sym, ap, ◌∙◌, subst, arith}
+use Rattle.std.proofs.Common.{◌≡◌, ℕ, ◌*◌, true, length, Ok, Err, None, Option, Result, sym, ap, ◌∙◌, subst, arith}
 use Rattle.std.proofs.lemmas.Bool.{cond-true, cond-false}
 use Rattle.std.specs.Result.{is_ok, result_err}
 use Rattle.numbers.specs.Refusals.{number_of, told}
@@ -52,17 +52,18 @@ invariant_of-result c =
       counted = c.compute_chunk_count-chunk_count.ensures;
     }
 
-pub returns : goal.returns
-returns c =
+pub returns-clause-value : goal.returns-clause-value
+returns-clause-value c =
     let d = c.args.description in
     let cs = c.args.channels.now in
     let k = kept d (length cs) (unbroken c.check.result _ c.in_ok-map_err.ensures.variant c.check.ensures) in
     let m : any_meaning c.in-Some.scheme ≡ meaning_of d = meant d (length cs) k c.in-Some.scheme c.in-Some.ensures in
     let n : c.compute_chunk_count-chunk_count.result ≡ chunks_in (meaning_of d) = c.compute_chunk_count-chunk_count.ensures ∙ ap chunks_in m in
-    record {
-      value = ap Ok (same_laid d cs _ _ _ m c.bytes_per_pixel.ensures n)
-          ∙ sym (counted d cs (unbroken c.check.result _ c.in_ok-map_err.ensures.variant c.check.ensures) c.in_ok-check_channels.ensures
-          ∙ cond-true _ _ _ (ap (states d.chunk_count) (sym n) ∙ sym c.is_stated.ensures ∙ c.if-not-is_stated.false));
-      bytes = ap (λ b. pixel_count (any_meaning c.in-Some.scheme) * b) c.bytes_per_pixel.ensures ∙ sym (over_channels (pixel_count (any_meaning c.in-Some.scheme)) cs);
-      lines = refl;
-    }
+    ap Ok (same_laid d cs _ _ _ m c.bytes_per_pixel.ensures n)
+    ∙ sym (counted d cs (unbroken c.check.result _ c.in_ok-map_err.ensures.variant c.check.ensures) c.in_ok-check_channels.ensures
+    ∙ cond-true _ _ _ (ap (states d.chunk_count) (sym n) ∙ sym c.is_stated.ensures ∙ c.if-not-is_stated.false))
+
+pub returns-clause-bytes : goal.returns-clause-bytes
+returns-clause-bytes c =
+    let pixels = pixel_count (any_meaning c.in-Some.scheme) in
+    ap (λ b. pixels * b) c.bytes_per_pixel.ensures ∙ sym (over_channels pixels c.args.channels.now)

@@ -1,14 +1,9 @@
-use Rattle.std.proofs.Common.{◌≡◌, ℕ, ◌<◌, ◌≤◌, length, Some, sym, ap, ◌∙◌, arith}
-use Rattle.numbers.specs.Counts.{side_at}
+use Rattle.std.proofs.Common.{◌≡◌, ℕ, ◌<◌, ◌≤◌, length, arith}
 use Rattle.schemes.specs.Levels.{mip_levels}
-use Rattle.schemes.specs.declared.level.Level.{Level}
 use Rattle.schemes.specs.declared.mip.MipLevels.{MipLevels}
 use Rattle.schemes.proofs.Counting.{nth_past}
 use Rattle.schemes.specs.Lists.{mip_length, mip_at, mip_low}
 use Rattle.schemes.proofs.mip.MipLevelsLevels.level.Goals as goal
-
-abbrev made : ℕ → ℕ → ℕ → Level
-made p w h = record { pair = record { 0 = p; 1 = p }; width = w; height = h }
 
 low : (s : MipLevels) (p n : ℕ) → p < n → n ≡ length (mip_levels s.rounding_mode s.size.0.pixels s.size.1.pixels) → p ≤ 31
 low s p n h e = mip_low s.rounding_mode s.size.0.pixels s.size.1.pixels p s.size.0.ranged s.size.1.ranged (omega arith)
@@ -22,16 +17,9 @@ at_level-height-requires c = low c.args.self.now _ _ c.if-position-count.true c.
 pub returns-then-position-count : goal.returns-then-position-count
 returns-then-position-count c =
     let s = c.args.self.now in
-    let m = s.rounding_mode in
-    let w = s.size.0.pixels in
-    let h = s.size.1.pixels in
-    let p = c.args.position in
-    let len = mip_length m w h in
-    ap (λ x. Some (made p x c.at_level-height.result)) c.at_level-width.ensures
-    ∙ ap (λ x. Some (made p (side_at m w p) x)) c.at_level-height.ensures
-    ∙ sym (mip_at m w h p (omega (arith, c.count.ensures, c.if-position-count.true)))
+    let len = mip_length s.rounding_mode s.size.0.pixels s.size.1.pixels in
+    let here = mip_at s.rounding_mode s.size.0.pixels s.size.1.pixels c.args.position (omega (arith, c.count.ensures, c.if-position-count.true)) in
+    cc
 
 pub returns-else-position-count : goal.returns-else-position-count
-returns-else-position-count c =
-    let s = c.args.self.now in
-    nth_past (mip_levels s.rounding_mode s.size.0.pixels s.size.1.pixels) c.args.position (omega (arith, c.count.ensures, c.if-position-count.false))
+returns-else-position-count c = nth_past _ c.args.position (omega (arith, c.count.ensures, c.if-position-count.false))
