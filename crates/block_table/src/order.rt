@@ -18,14 +18,10 @@ impl fmt::Display for BlocksInOrder {
         }
         f.write_str("\n")?;
         let mut blocks = self.0.enumerate_ordered_blocks();
-        for turn in 0..self.0.chunk_count() {
-            let taken = if turn % 2 == 0 {
-                blocks.take_front()
-            } else {
-                blocks.take_back()
-            };
-            if let Some((number, _)) = taken {
-                write!(f, "{number}/{} ", blocks.len())?;
+        while let Some((first, _)) = blocks.next() {
+            write!(f, "{first}/{} ", blocks.len())?;
+            if let Some((last, _)) = blocks.next_back() {
+                write!(f, "{last}/{} ", blocks.len())?;
             }
         }
         Ok(())

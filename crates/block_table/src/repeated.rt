@@ -58,14 +58,10 @@ impl Repeated {
 }
 
 // The sum of what is answered to a question that is asked so many times.
-fn total<F: FnMut(usize) -> usize>(times: usize, mut ask: F) -> usize
-    requires { F.IsAlwaysCallable ask }
+fn total<F: FnMut(usize) -> usize>(times: usize, ask: F) -> usize
+    requires { (state : F) (x : _) → F.pre state x }
 {
-    let mut sum = 0usize;
-    for i in 0..times {
-        sum = sum.wrapping_add(ask(i));
-    }
-    sum
+    (0..times).map(ask).fold(0usize, usize::wrapping_add)
 }
 
 // The number of a block for each of the samples, spread over all blocks.
