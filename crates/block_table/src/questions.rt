@@ -34,9 +34,8 @@ pub(crate) enum Question<'a> {
         data_length: usize,
         room: usize,
     },
-    // Nothing, so many times, where the word is none that can be repeated.
     Repeated {
-        question: Option<Repeated>,
+        question: Repeated,
         times: usize,
     },
 }
@@ -65,7 +64,7 @@ impl<'a> Question<'a> {
                 room: size(*room),
             },
             ("repeat", [times]) => Question::Repeated {
-                question: words.next().and_then(Repeated::read),
+                question: Repeated::read(words.next().unwrap_or("")),
                 times: size(*times),
             },
             _ => return None,
@@ -93,10 +92,7 @@ impl<'a> Question<'a> {
                 data_length,
                 room,
             } => Answer::Prefix(WrittenPrefix::new(layer, number, data_length, room)),
-            Question::Repeated { question, times } => match question {
-                Some(question) => question.ask(layer, times)?.into(),
-                None => Answer::Number(0),
-            },
+            Question::Repeated { question, times } => question.ask(layer, times).into(),
         })
     }
 }

@@ -18,40 +18,41 @@ pub(crate) enum Repeated {
     Bounds,
     Tiles,
     Lookups,
+    // What no word above names: it sums to 0.
+    Nothing,
 }
 
 impl Repeated {
-    pub(crate) fn read(word: &str) -> Option<Repeated> {
+    pub(crate) fn read(word: &str) -> Repeated {
         match word {
-            "count" => Some(Repeated::Count),
-            "enumerate" => Some(Repeated::Enumerate),
-            "bounds" => Some(Repeated::Bounds),
-            "tiles" => Some(Repeated::Tiles),
-            "lookups" => Some(Repeated::Lookups),
-            _ => None,
+            "count" => Repeated::Count,
+            "enumerate" => Repeated::Enumerate,
+            "bounds" => Repeated::Bounds,
+            "tiles" => Repeated::Tiles,
+            "lookups" => Repeated::Lookups,
+            _ => Repeated::Nothing,
         }
     }
 
-    pub(crate) fn ask(self, layer: &Layer, times: usize) -> Result<usize, Refusal> {
+    pub(crate) fn ask(self, layer: &Layer, times: usize) -> usize {
         let scheme = layer.scheme();
         match self {
-            Repeated::Count => Ok(total(times, |_| compute_chunk_count(&scheme))),
-            Repeated::Enumerate => Ok(total(times, |_| enumerated(layer))),
-            Repeated::Bounds => Ok(total(times, |i| {
-                width(bounds_of_block(&scheme, sample(layer, i)))
-            })),
+            Repeated::Count => total(times, |_| compute_chunk_count(&scheme)),
+            Repeated::Enumerate => total(times, |_| enumerated(layer)),
+            Repeated::Bounds => total(times, |i| width(bounds_of_block(&scheme, sample(layer, i)))),
             Repeated::Tiles => tiles(layer, times),
+            Repeated::Nothing => 0,
             Repeated::Lookups => {
                 let image = Positioned {
                     scheme,
                     position: layer.position(),
                 };
-                Ok(total(times, |i| {
+                total(times, |i| {
                     image
                         .block_coordinates(sample(layer, i))
                         .and_then(|coordinates| layer.lookup(coordinates))
                         .unwrap_or(0)
-                }))
+                })
             }
         }
     }
@@ -87,14 +88,15 @@ fn enumerated(layer: &Layer) -> usize {
 }
 
 // Tile indices are made before, since the question is what they lead to.
-fn tiles(layer: &Layer, times: usize) -> Result<usize, Refusal> {
+fn tiles(layer: &Layer, times: usize) -> usize {
     let scheme = layer.scheme();
-    let asked: [TileCoordinates; SAMPLES] = array::try_from_fn(|i| {
-        find_block(&scheme, sample(layer, i)).map(|block| block.tile_coordinates())
-    })?;
-    Ok(total(times / SAMPLES, |_| {
-        asked.iter().fold(0usize, |sum, tile| {
+    let asked: [Option<TileCoordinates>; SAMPLES] = array::from_fn(|i| {
+        let block = find_block(&scheme, sample(layer, i)).ok()?;
+        Some(block.tile_coordinates())
+    });
+    total(times / SAMPLES, |_| {
+        asked.iter().flatten().fold(0usize, |sum, tile| {
             sum.wrapping_add(width(layer.get_absolute_block_pixel_coordinates(*tile)))
         })
-    }))
+    })
 }

@@ -34,10 +34,8 @@ pub(crate) fn bounds<S: Scheme>(scheme: &S, block: Block) -> IntegerBounds
 {
     let max = Vec2(block.level.width, block.level.height);
     let size = Side::pixels_of(scheme.block_size());
-    match block.tile_coordinates().to_data_indices(size, max) {
-        Ok(bounds) => bounds,
-        Err(_) => unreachable(),
-    }
+    let bounds = block.tile_coordinates().to_data_indices(size, max);
+    bounds.unwrap()
 }
 
 // The corner, width and height in its level of the block with a number.

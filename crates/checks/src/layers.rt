@@ -107,9 +107,7 @@ fn totals(rt: HostRuntime) -> Result<(), Fail> {
         channel(SampleType::F16, 1, 1),
         channel(SampleType::F32, 1, 1),
     ];
-    let Ok(layer) = Layer::new(tiles(2), &channels) else {
-        return Err(Fail::new("refused"));
-    };
+    let layer = Layer::new(tiles(2), &channels)?;
     assert_eq!(rt; layer.chunk_count(), 8);
     assert_eq!(rt; layer.bytes_per_pixel(), 10);
     assert_eq!(rt; layer.total_pixel_bytes().ok(), Some(180));
@@ -123,16 +121,12 @@ fn totals(rt: HostRuntime) -> Result<(), Fail> {
 fn totals_past_64_bits(rt: HostRuntime) -> Result<(), Fail> {
     let one = [channel(SampleType::F32, 1, 1)];
     let two = [one[0], one[0]];
-    let Ok(layer) = Layer::new(tiles(2147483647), &one) else {
-        return Err(Fail::new("refused"));
-    };
+    let layer = Layer::new(tiles(2147483647), &one)?;
     assert_eq!(rt;
         layer.max_block_byte_size().ok(),
         Some(18446744056529682436)
     );
-    let Ok(layer) = Layer::new(tiles(2147483647), &two) else {
-        return Err(Fail::new("refused"));
-    };
+    let layer = Layer::new(tiles(2147483647), &two)?;
     assert_eq!(rt; layer.max_pixel_file_bytes().ok(), Some(336));
     match layer.max_block_byte_size() {
         Ok(_) => Err(Fail::new("not refused")),

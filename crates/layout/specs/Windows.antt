@@ -1,5 +1,6 @@
 -- What divides a layer's window, and the limits of the blocks that cut it.
-use Rattle.std.specs.Prelude.{ℕ, ◌%◌, Bool, ◌&&◌, ◌||◌, ℤ, ◌==◌, nat_le, unsigned_abs}
+use Rattle.std.specs.Prelude.{ℕ, ◌%◌, Bool, ◌&&◌, ◌||◌, ℤ, ◌==◌, unsigned_abs}
+use Rattle.schemes.specs.Making.{is_side}
 
 -- on one axis: whether a factor divides position and size
 abbrev pub divides : ℕ → ℤ → ℕ → Bool
@@ -11,4 +12,4 @@ good_lines lines = lines == 1 || (lines == 16 || (lines == 32 || lines == 256))
 
 -- from 1 to 2,147,483,647
 abbrev pub good_side : ℕ → Bool
-good_side n = nat_le 1 n && nat_le n 2147483647
+good_side n = is_side n

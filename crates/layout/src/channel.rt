@@ -10,6 +10,7 @@ use crate::attribute::{BlockDescription, ChannelDescription};
 use crate::description::LayerDescription;
 use crate::window::axis_divides;
 use numbers::refusal::{Module, Reason, Refusal};
+use numbers::vec2::Vec2;
 use schemes::side::Side;
 
 impl ChannelDescription {
@@ -17,7 +18,7 @@ impl ChannelDescription {
     fn is_full(&self) -> bool
         ensures { result ≡ full self.now }
     {
-        self.sampling.0 == 1 && self.sampling.1 == 1
+        self.sampling == Vec2(1, 1)
     }
 
     // A sampling factor has the range of a side.
@@ -66,13 +67,11 @@ impl LayerDescription {
         ensures { optional told (result_err result) ≡ broken_channel self.now 0 channels.now }
     {
         for (place, channel) in channels.iter().enumerate() {
-            if let Err(reason) = self.check_channel(channel) {
-                return Err(Refusal {
-                    reason,
-                    module: Module::Layers,
-                    place,
-                });
-            }
+            self.check_channel(channel).map_err(|reason| Refusal {
+                reason,
+                module: Module::Layers,
+                place,
+            })?;
         }
         Ok(())
     }

@@ -52,8 +52,8 @@ pub fn calculate_block_position_and_size(
 pub fn compute_level_count(round: RoundingMode, full_res: usize) -> Result<usize, Refusal>
     ensures { outcome result ≡ level_count round full_res }
 {
-    let counted = u32::try_from(full_res).ok();
-    let full_res = counted.ok_or(Refusal::new(Reason::NumberOutOfRange, Module::Sides))?;
+    let counted = u32::try_from(full_res);
+    let full_res = counted.map_err(|_| Refusal::new(Reason::NumberOutOfRange, Module::Sides))?;
     Ok(round.log2(full_res) as usize + 1)
 }
 

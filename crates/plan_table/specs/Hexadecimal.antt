@@ -1,14 +1,19 @@
 -- Bytes as hexadecimal digits.
-use Rattle.std.specs.Prelude.{ℕ, ◌+◌, ◌*◌, cond, ◌&&◌, List, [], ◌∷◌, Some, None, Option, nat_lt}
-use Rattle.std.specs.Char.{digit_value}
+use Rattle.std.specs.Prelude.{ℕ, ◌+◌, ◌-◌, ◌*◌, cond, ◌&&◌, List, [], ◌∷◌, Some, None, Option, nat_le}
 
--- the byte that these two letters write, and nothing where one is no digit
-abbrev pub byte_by : ℕ → ℕ → Option ℕ
-byte_by high low = cond (nat_lt (digit_value high) 16 && nat_lt (digit_value low) 16) (Some (digit_value high * 16 + digit_value low)) None
+-- 0 to 9, and a to f
+abbrev pub digit_of : ℕ → Option ℕ
+digit_of letter = cond (nat_le 48 letter && nat_le letter 57) (Some (letter - 48)) (cond (nat_le 97 letter && nat_le letter 102) (Some (letter - 97 + 10)) None)
 
--- the byte that a pair of letters writes
+-- the byte that two digits write
+abbrev pub byte_by : Option ℕ → Option ℕ → Option ℕ
+byte_by (Some high) (Some low) = Some (high * 16 + low)
+byte_by (Some high) None = None
+byte_by None low = None
+
+-- the byte that a pair of letters writes; nothing where one of them is no digit
 abbrev pub byte_of : List ℕ → Option ℕ
 byte_of [] = None
 byte_of (high ∷ []) = None
-byte_of (high ∷ (low ∷ [])) = byte_by high low
+byte_of (high ∷ (low ∷ [])) = byte_by (digit_of high) (digit_of low)
 byte_of (high ∷ (low ∷ (other ∷ more))) = None

@@ -1,13 +1,25 @@
 // Replays a table of plans: each line of hexadecimal bytes is a session of its own; a line after `#` is told again.
 #![tactic(auto)]
 
-ghost use Rattle.std.specs.Prelude.{◌≡◌};
-ghost use Rattle.plan_table.specs.Hexadecimal.{byte_of};
+ghost use Rattle.std.specs.Prelude.{◌≡◌, ◌<◌, IfSome};
+ghost use Rattle.plan_table.specs.Hexadecimal.{byte_of, digit_of};
 
 use session::transcript::transcript;
 use std::alloc::{AllocError, Global};
 use std::io;
 use std::io::{BufRead, BufReader, BufWriter, Write};
+
+// Lower-case letters alone are digits.
+fn digit(letter: u8) -> Option<u8>
+    ensures value { result ≡ digit_of letter }
+    ensures small { IfSome result (λ d. d < 16) }
+{
+    match letter {
+        b'0'..=b'9' => Some(letter - b'0'),
+        b'a'..=b'f' => Some(letter - b'a' + 10),
+        _ => None,
+    }
+}
 
 // The byte that a pair of hexadecimal digits writes.
 fn byte(pair: &[u8]) -> Option<u8>
@@ -16,9 +28,7 @@ fn byte(pair: &[u8]) -> Option<u8>
     let [high, low] = pair else {
         return None;
     };
-    let high = char::from(*high).to_digit(16)?;
-    let low = char::from(*low).to_digit(16)?;
-    Some((high * 16 + low) as u8)
+    Some(digit(*high)? * 16 + digit(*low)?)
 }
 
 // The bytes that pairs of digits write; what is no pair of digits ends them.

@@ -13,10 +13,7 @@ impl Side {
         ensures some { 1 ≤ result }
         ensures few { result ≤ 32 }
     {
-        match compute_level_count(round, self.pixels) {
-            Ok(count) => count,
-            Err(_) => unreachable(),
-        }
+        compute_level_count(round, self.pixels).unwrap()
     }
 
     // The pixels that are left of the side at a level.
@@ -24,19 +21,13 @@ impl Side {
         requires { level_index ≤ 31 }
         ensures { result ≡ side_at round self.pixels level_index }
     {
-        match compute_level_size(round, self.pixels, level_index) {
-            Ok(size) => size,
-            Err(_) => unreachable(),
-        }
+        compute_level_size(round, self.pixels, level_index).unwrap()
     }
 
     // The blocks of this side that cut so many pixels.
     pub fn blocks_along(self, pixels: usize) -> usize
         ensures { result ≡ blocks_along pixels self.pixels }
     {
-        match compute_block_count(pixels, self.pixels) {
-            Ok(count) => count,
-            Err(_) => unreachable(),
-        }
+        compute_block_count(pixels, self.pixels).unwrap()
     }
 }

@@ -32,3 +32,30 @@ pub trait Scheme {
 
     ghost lawful: { (s : Self) → Lawful (meaning s) };
 }
+
+// What is lent is the scheme that it lends.
+impl<S: Scheme> Scheme for &S {
+    ghost meaning = { λ s. S.meaning s.now };
+
+    ghost lawful = { λ s. S.lawful s.now };
+
+    fn level_count(&self) -> usize {
+        (*self).level_count()
+    }
+
+    fn block_size(&self) -> Vec2<Side> {
+        (*self).block_size()
+    }
+
+    fn naming(&self) -> Naming {
+        (*self).naming()
+    }
+
+    fn level(&self, position: usize) -> Option<Level> {
+        (*self).level(position)
+    }
+
+    fn position(&self, pair: Vec2<usize>) -> Option<usize> {
+        (*self).position(pair)
+    }
+}

@@ -37,10 +37,6 @@ impl Levels for OneLevel {
     }
 
     fn position(&self, pair: Vec2<usize>) -> Option<usize> {
-        if pair.0 == 0 && pair.1 == 0 {
-            Some(0)
-        } else {
-            None
-        }
+        if pair == Vec2(0, 0) { Some(0) } else { None }
     }
 }

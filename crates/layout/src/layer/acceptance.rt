@@ -40,9 +40,8 @@ impl Layer {
             .check(channels.len())
             .map_err(|reason| Refusal::new(reason, Module::Layers))?;
         description.check_channels(channels)?;
-        let Some(scheme) = description.scheme() else {
-            unreachable()
-        };
+        // No rule is broken, so the scheme is there.
+        let scheme = description.scheme().unwrap();
         let chunk_count = compute_chunk_count(&scheme);
         if !is_stated(description.chunk_count, chunk_count) {
             return Err(Refusal::new(Reason::WrongChunkCount, Module::Layers));

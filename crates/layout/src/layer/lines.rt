@@ -21,9 +21,8 @@ impl Layer {
             .checked_sub(self.positioned.position.1)
             .ok_or(Refusal::new(Reason::LineDistanceTooLarge, Module::Program))?;
         // Rounded down, the quotient is negative exactly where the distance is.
-        let distance = usize::try_from(distance)
-            .ok()
-            .ok_or(Refusal::new(Reason::LineAboveLayer, Module::Program))?;
+        let below = usize::try_from(distance);
+        let distance = below.map_err(|_| Refusal::new(Reason::LineAboveLayer, Module::Program))?;
         Ok(TileCoordinates {
             tile_index: Vec2(0, distance / self.lines_per_block),
             level_index: Vec2(0, 0),

@@ -3,8 +3,7 @@ use Rattle.numbers.specs.Counts.{levels_of}
 use Rattle.schemes.specs.Halves.{side_levels}
 use Rattle.schemes.proofs.side.Side.level_count.Goals as goal
 
-pub returns : goal.returns
-returns c =
-    let few = side_levels c.args.round c.args.self.pixels (omega arith) in
-    let is : c.in-Ok.count ≡ levels_of c.args.round c.args.self.pixels = search rules in
-    record { count = is; some = omega arith; few = omega arith }
+pub returns-clause-few : goal.returns-clause-few
+returns-clause-few c =
+    let is : c.unwrap.result ≡ levels_of c.args.round c.args.self.pixels = search rules in
+    omega (arith, side_levels c.args.round c.args.self.pixels (omega arith))
