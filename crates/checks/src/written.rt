@@ -27,7 +27,9 @@ fn told(answer: Result<usize, Refusal>) -> usize {
 // The first block's line is held by 32 signed bits, the second block's is not: that is told before all else.
 #[test]
 fn past_the_last_line(rt: HostRuntime) -> Result<(), Fail> {
-    let scheme = scheme().ok_or(Fail::new("three sides"))?;
+    let Some(scheme) = scheme() else {
+        return Err(Fail::new("three sides"));
+    };
     let image = Positioned {
         scheme,
         position: Vec2(0, 2147483646),
