@@ -95,8 +95,11 @@ fn tiles(layer: &Layer, times: usize) -> usize {
         Some(block.tile_coordinates())
     });
     total(times / SAMPLES, |_| {
-        asked.iter().flatten().fold(0usize, |sum, tile| {
-            sum.wrapping_add(width(layer.get_absolute_block_pixel_coordinates(*tile)))
-        })
+        asked
+            .iter()
+            .filter_map(|tile| *tile)
+            .fold(0usize, |sum, tile| {
+                sum.wrapping_add(width(layer.get_absolute_block_pixel_coordinates(tile)))
+            })
     })
 }
