@@ -24,7 +24,7 @@ abbrev pub bounds_text : IntegerBounds → List ℕ
 bounds_text b = spaced (signed_decimal b.position.0) (spaced (signed_decimal b.position.1) (spaced (decimal b.size.0) (decimal b.size.1)))
 
 -- tile indices, and the level's pair
-abbrev pub coordinates_text : TileCoordinates → List ℕ
+abbrev pub coordinates_text : TileCoordinates ℕ → List ℕ
 coordinates_text t = spaced (decimal t.tile_index.0) (spaced (decimal t.tile_index.1) (spaced (decimal t.level_index.0) (decimal t.level_index.1)))
 
 -- tile indices, the level's pair, and the size in pixels

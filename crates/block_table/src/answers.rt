@@ -70,8 +70,8 @@ impl From<IntegerBounds> for Answer<'_> {
     }
 }
 
-impl From<TileCoordinates> for Answer<'_> {
-    fn from(tile: TileCoordinates) -> Self {
+impl From<TileCoordinates<usize>> for Answer<'_> {
+    fn from(tile: TileCoordinates<usize>) -> Self {
         Answer::Coordinates(Coordinates(tile))
     }
 }
@@ -92,7 +92,7 @@ impl fmt::Display for Bounds {
 
 // Tile indices, and the level's pair.
 #[derive(Clone, Copy)]
-pub(crate) struct Coordinates(pub(crate) TileCoordinates);
+pub(crate) struct Coordinates(pub(crate) TileCoordinates<usize>);
 
 impl fmt::Display for Coordinates {
     ghost output = { λ tile. Some (coordinates_text tile.0) };

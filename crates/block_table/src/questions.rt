@@ -27,8 +27,8 @@ pub(crate) enum Question<'a> {
         line: i32,
     },
     Lookup(BlockCoordinates),
-    InLevel(TileCoordinates),
-    InPlane(TileCoordinates),
+    InLevel(TileCoordinates<usize>),
+    InPlane(TileCoordinates<usize>),
     Prefix {
         number: usize,
         data_length: usize,
@@ -52,10 +52,10 @@ impl<'a> Question<'a> {
             },
             ("row", [line]) => Question::Row { line: int(*line) },
             ("find", [y]) => Question::Lookup(BlockCoordinates::Line { y: int(*y) }),
-            ("find", [x, y, i, j]) => Question::Lookup(BlockCoordinates::Tile {
+            ("find", [x, y, i, j]) => Question::Lookup(BlockCoordinates::Tile(TileCoordinates {
                 tile_index: Vec2(int(*x), int(*y)),
                 level_index: Vec2(int(*i), int(*j)),
-            }),
+            })),
             ("abs", [x, y, i, j]) => Question::InLevel(tile(*x, *y, *i, *j)),
             ("win", [x, y, i, j]) => Question::InPlane(tile(*x, *y, *i, *j)),
             (_, [number, data_length, room]) => Question::Prefix {
@@ -97,7 +97,7 @@ impl<'a> Question<'a> {
     }
 }
 
-fn tile(x: i64, y: i64, i: i64, j: i64) -> TileCoordinates {
+fn tile(x: i64, y: i64, i: i64, j: i64) -> TileCoordinates<usize> {
     TileCoordinates {
         tile_index: Vec2(size(x), size(y)),
         level_index: Vec2(size(i), size(j)),

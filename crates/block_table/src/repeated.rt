@@ -5,11 +5,17 @@ use blocks::pixels::bounds_of_block;
 use blocks::tile::TileCoordinates;
 use layout::layer::Layer;
 use numbers::refusal::Refusal;
+use numbers::vec2::Vec2;
 use prefixes::positioned::Positioned;
 use schemes::chunk_count::compute_chunk_count;
 use std::array;
 
 const SAMPLES: usize = 1024;
+
+const FIRST: TileCoordinates<usize> = TileCoordinates {
+    tile_index: Vec2(0, 0),
+    level_index: Vec2(0, 0),
+};
 
 #[derive(Clone, Copy)]
 pub(crate) enum Repeated {
@@ -90,16 +96,12 @@ fn enumerated(layer: &Layer) -> usize {
 // Tile indices are made before, since the question is what they lead to.
 fn tiles(layer: &Layer, times: usize) -> usize {
     let scheme = layer.scheme();
-    let asked: [Option<TileCoordinates>; SAMPLES] = array::from_fn(|i| {
-        let block = find_block(&scheme, sample(layer, i)).ok()?;
-        Some(block.tile_coordinates())
+    let asked: [TileCoordinates<usize>; SAMPLES] = array::from_fn(|i| {
+        find_block(&scheme, sample(layer, i)).map_or(FIRST, |block| block.tile_coordinates())
     });
     total(times / SAMPLES, |_| {
-        asked
-            .iter()
-            .filter_map(|tile| *tile)
-            .fold(0usize, |sum, tile| {
-                sum.wrapping_add(width(layer.get_absolute_block_pixel_coordinates(tile)))
-            })
+        asked.iter().fold(0usize, |sum, tile| {
+            sum.wrapping_add(width(layer.get_absolute_block_pixel_coordinates(*tile)))
+        })
     })
 }

@@ -131,9 +131,9 @@ comes o m ok i b k row e f r =
     }
 
 -- an entry from its parts
-pub entry_from : (m : Meaning) (n : ℕ) (t : TileCoordinates) (k : IntegerBounds) (x b : Block) → n ≡ number_of m b → t ≡ tile_of x → k ≡ bounds_of (block_size m) x → x ≡ b → ◌≡◌ {A = ℕ × TileIndices} (n, record { location = t; size = k.size }) (entry m b)
+pub entry_from : (m : Meaning) (n : ℕ) (t : TileCoordinates ℕ) (k : IntegerBounds) (x b : Block) → n ≡ number_of m b → t ≡ tile_of x → k ≡ bounds_of (block_size m) x → x ≡ b → ◌≡◌ {A = ℕ × TileIndices} (n, record { location = t; size = k.size }) (entry m b)
 entry_from m n t k x b en et ek ex =
-    let with : ℕ → TileCoordinates → IntegerBounds → ℕ × TileIndices = λ i u v. (i, record { location = u; size = v.size }) in
+    let with : ℕ → TileCoordinates ℕ → IntegerBounds → ℕ × TileIndices = λ i u v. (i, record { location = u; size = v.size }) in
     ap (λ i. with i t k) en
     ∙ ap (λ u. with (number_of m b) u k) (et ∙ ap tile_of ex)
     ∙ ap (with (number_of m b) (tile_of b)) (ek ∙ ap (bounds_of (block_size m)) ex)

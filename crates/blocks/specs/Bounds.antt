@@ -19,7 +19,7 @@ abbrev pub bounds_of : Vec2 ℕ → Block → IntegerBounds
 bounds_of size b = record { position = record { 0 = pos (corner size b).0; 1 = pos (corner size b).1 }; size = extent size b }
 
 -- column and row, and the level's pair
-abbrev pub tile_of : Block → TileCoordinates
+abbrev pub tile_of : Block → TileCoordinates ℕ
 tile_of b = record { tile_index = record { 0 = b.column; 1 = b.row }; level_index = b.level.pair }
 
 -- the same, with the size of the bounds

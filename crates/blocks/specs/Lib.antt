@@ -4,4 +4,5 @@ pub mod Cuts
 pub mod Bounds
 pub mod Orders
 pub mod Pixels
+pub mod Stored
 pub mod Tiles

@@ -9,7 +9,7 @@ use Rattle.blocks.specs.declared.bounds.IntegerBounds.{IntegerBounds}
 use Rattle.blocks.specs.declared.tile.TileCoordinates.{TileCoordinates}
 
 -- the pixels before the tile
-abbrev pub tile_corner : Vec2 ℕ → TileCoordinates → Vec2 ℕ
+abbrev pub tile_corner : Vec2 ℕ → TileCoordinates ℕ → Vec2 ℕ
 tile_corner size t = record { 0 = size.0 * t.tile_index.0; 1 = size.1 * t.tile_index.1 }
 
 -- the tile from its corner on, clipped at the far edges
@@ -24,7 +24,7 @@ abbrev pub both_small : Vec2 ℕ → Bool
 both_small a = nat_le a.0 2147483647 && nat_le a.1 2147483647
 
 -- inside an image of this size: 15 where the tile begins past an edge, then 16 where its position leaves 32 signed bits
-abbrev pub data_indices : Vec2 ℕ → Vec2 ℕ → TileCoordinates → Result IntegerBounds Told
+abbrev pub data_indices : Vec2 ℕ → Vec2 ℕ → TileCoordinates ℕ → Result IntegerBounds Told
 data_indices size max t =
     cond (both_below (tile_corner size t) max)
     (cond (both_small (tile_corner size t)) (Ok (clipped_tile size max (tile_corner size t))) (Err (refused 16 5 0)))
@@ -39,5 +39,5 @@ abbrev pub with_origin : Vec2 ℤ → IntegerBounds → Result IntegerBounds Tol
 with_origin origin k = elim (position_from origin k.position) [ Some p ↦ Ok (record { position = p; size = k.size }) | None ↦ Err (refused 16 5 0) ]
 
 -- in the plane of a window that lies at some position
-abbrev pub absolute_indices : Vec2 ℕ → IntegerBounds → TileCoordinates → Result IntegerBounds Told
+abbrev pub absolute_indices : Vec2 ℕ → IntegerBounds → TileCoordinates ℕ → Result IntegerBounds Told
 absolute_indices size window t = elim (data_indices size window.size t) [ Ok k ↦ with_origin window.position k | Err why ↦ Err why ]

@@ -17,7 +17,7 @@ use schemes::side::Side;
 
 impl Block {
     // Column and row, and the level's pair.
-    pub fn tile_coordinates(&self) -> TileCoordinates
+    pub fn tile_coordinates(&self) -> TileCoordinates<usize>
         ensures { result ≡ tile_of self.now }
     {
         TileCoordinates {

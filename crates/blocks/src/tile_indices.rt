@@ -35,7 +35,7 @@ impl IntegerBounds {
     }
 }
 
-impl TileCoordinates {
+impl TileCoordinates<usize> {
     // Inside an image of this size. The level is not looked at: the image is the level's.
     pub fn to_data_indices(
         &self,

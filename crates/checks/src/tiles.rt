@@ -4,7 +4,7 @@ use blocks::tile::TileCoordinates;
 use numbers::refusal::Refusal;
 use numbers::vec2::Vec2;
 
-fn tile(x: usize, y: usize) -> TileCoordinates {
+fn tile(x: usize, y: usize) -> TileCoordinates<usize> {
     TileCoordinates {
         tile_index: Vec2(x, y),
         level_index: Vec2(7, 9),

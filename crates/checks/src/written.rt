@@ -1,4 +1,5 @@
 // Prefixes at positions that no layer has, and prefixes read from bytes that no layer wrote.
+use blocks::tile::TileCoordinates;
 use numbers::refusal::Refusal;
 use numbers::vec2::Vec2;
 use prefixes::coordinates::BlockCoordinates;
@@ -63,10 +64,10 @@ fn read_as_they_stand(rt: HostRuntime) {
     let bytes = [
         255, 255, 255, 255, 1, 0, 0, 0, 32, 0, 0, 0, 0, 0, 0, 128, 255, 255, 255, 127, 9,
     ];
-    let tile = BlockCoordinates::Tile {
+    let tile = BlockCoordinates::Tile(TileCoordinates {
         tile_index: Vec2(-1, 1),
         level_index: Vec2(32, -2147483648),
-    };
+    });
     assert_eq!(rt; fields(Naming::Tile, &bytes), Some((tile, 2147483647)));
     assert_eq!(rt; fields(Naming::Tile, &bytes[..19]), None);
     assert_eq!(rt;

@@ -60,7 +60,7 @@ command letter ops =
     (cond (letter == 78) (Some N)
     (cond (letter == 81) (Some (Q (long_at ops 0)))
     (cond (letter == 89) (Some (Y (int_at ops 0)))
-    (cond (letter == 88) (Some (X (ints_at ops 0) (ints_at ops 8)))
+    (cond (letter == 88) (Some (X (record { tile_index = ints_at ops 0; level_index = ints_at ops 8 })))
     None))))))))))
 
 -- the command at the front of the bytes and the bytes after it; nothing where it can't be read

@@ -3,6 +3,7 @@ ghost use Rattle.std.specs.Prelude.{◌≡◌, ◌∷◌};
 ghost use Rattle.commands.specs.Commands.{read_command};
 ghost use Rattle.fields.specs.Bytes.{seen};
 
+use blocks::tile::TileCoordinates;
 use fields::field::Field;
 use layout::attribute::{BlockDescription, LevelMode, LineOrder, SampleType, TileDescription};
 use layout::description::LayerDescription;
@@ -15,26 +16,14 @@ pub enum Command {
     C(SampleType),
     S(LayerDescription),
     T(LayerDescription),
-    O {
-        first_offset: u64,
-    },
+    O { first_offset: u64 },
     F,
     B,
-    P {
-        number: usize,
-        length: u32,
-    },
+    P { number: usize, length: u32 },
     N,
-    Q {
-        number: usize,
-    },
-    Y {
-        y: i32,
-    },
-    X {
-        tile_index: Vec2<i32>,
-        level_index: Vec2<i32>,
-    },
+    Q { number: usize },
+    Y { y: i32 },
+    X(TileCoordinates<i32>),
 }
 
 // Where a layer lies and how large it is: `S` and `T` both begin with it.
@@ -153,11 +142,9 @@ fn tile_lookup(bytes: &[u8]) -> Option<(Command, &[u8])>
     ensures { seen result ≡ read_command (88 ∷ bytes.now) }
 {
     let ((tile_index, level_index), rest) = <(Vec2<i32>, Vec2<i32>)>::read(bytes)?;
-    Some((
-        Command::X {
-            tile_index,
-            level_index,
-        },
-        rest,
-    ))
+    let tile = TileCoordinates {
+        tile_index,
+        level_index,
+    };
+    Some((Command::X(tile), rest))
 }

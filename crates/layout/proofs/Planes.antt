@@ -31,7 +31,7 @@ not_deep : (n : Naming) (pair : Vec2 ℕ) → pair.0 ≤ 31 → pair.1 ≤ 31 �
 not_deep Line pair a b = refl
 not_deep Tile pair a b = grind (arith, nat_tests)
 
-pub tile_pixels : (m : Meaning) → Lawful m → (n : ℕ) (b : Block) (t : TileCoordinates) → slice_get (all_blocks m) n ≡ Some b → tile_of b ≡ t → block_pixels m t ≡ Ok (bounds_of (block_size m) b)
+pub tile_pixels : (m : Meaning) → Lawful m → (n : ℕ) (b : Block) (t : TileCoordinates ℕ) → slice_get (all_blocks m) n ≡ Some b → tile_of b ≡ t → block_pixels m t ≡ Ok (bounds_of (block_size m) b)
 tile_pixels m ok n b t e is =
     let k = ((numbered m).listed n b e).0 in
     let low = ok.pairs b.position b.level k.there in
@@ -58,7 +58,7 @@ never_ok : {P : Type 0} (k : IntegerBounds) (why : Told) (r : Result IntegerBoun
 never_ok k why r e f = let z : ◌≡◌ {A = ℕ} 0 1 = cc in let none : ⊥ = omega arith in elim none [ ]
 
 -- bounds that were answered begin inside the image
-begins : (size max : Vec2 ℕ) (t : TileCoordinates) (k : IntegerBounds) → data_indices size max t ≡ Ok k → (x y : ℕ) × (k.position.0 ≡ pos x) × (k.position.1 ≡ pos y) × (x < max.0) × (y < max.1)
+begins : (size max : Vec2 ℕ) (t : TileCoordinates ℕ) (k : IntegerBounds) → data_indices size max t ≡ Ok k → (x y : ℕ) × (k.position.0 ≡ pos x) × (k.position.1 ≡ pos y) × (x < max.0) × (y < max.1)
 begins size max t k e =
     let corner = tile_corner size t in
     elim (cases_Bool (both_below corner max)) [
@@ -79,7 +79,7 @@ sum_small p z x n e h is =
     let small : within (negsuc 2147483647) (pos 2147483647) (pos x +ℤ p) ≡ Some (pos x +ℤ p) = grind (arith, ints, nat_tests) in
     ap (λ v. within (negsuc 2147483647) (pos 2147483647) (v +ℤ p)) is ∙ small ∙ ap (λ v. Some (v +ℤ p)) (sym is)
 
-pub in_plane : (m : Meaning) (position : Vec2 ℤ) → Placed position m → (t : TileCoordinates) (k : IntegerBounds) → Ok k ≡ block_pixels m t → position_from position k.position ≡ Some (moved position k).position
+pub in_plane : (m : Meaning) (position : Vec2 ℤ) → Placed position m → (t : TileCoordinates ℕ) (k : IntegerBounds) → Ok k ≡ block_pixels m t → position_from position k.position ≡ Some (moved position k).position
 in_plane m position p t k e =
     let pair = t.level_index in
     elim (cases_Bool (too_deep m.naming pair)) [

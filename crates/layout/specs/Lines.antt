@@ -23,14 +23,14 @@ floored (pos a) b = pos (a / b)
 floored (negsuc a) b = negsuc (a / b)
 
 -- tile (0, row) of level (0, 0)
-abbrev pub line_tile : ℕ → TileCoordinates
+abbrev pub line_tile : ℕ → TileCoordinates ℕ
 line_tile row = record { tile_index = record { 0 = 0; 1 = row }; level_index = record { 0 = 0; 1 = 0 } }
 
 -- 18 where the quotient is negative
-abbrev pub at_row : ℤ → Result TileCoordinates Told
+abbrev pub at_row : ℤ → Result (TileCoordinates ℕ) Told
 at_row (pos row) = Ok (line_tile row)
 at_row (negsuc n) = Err (refused 18 8 0)
 
 -- y minus the layer's y, divided by the lines of a block and rounded down; 17 where the difference leaves 32 signed bits
-abbrev pub line_row : Laid → ℕ → ℤ → Result TileCoordinates Told
+abbrev pub line_row : Laid → ℕ → ℤ → Result (TileCoordinates ℕ) Told
 line_row l lines y = elim (within (negsuc 2147483647) (pos 2147483647) (y -ℤ l.position.1)) [ Some down ↦ at_row (floored down lines) | None ↦ Err (refused 17 8 0) ]

@@ -105,7 +105,7 @@ abbrev pub place : ℤ → ℤ → Vec2 ℤ
 place x y = record { 0 = x; 1 = y }
 
 -- tile (x, y) of level (i, j)
-abbrev pub tile : ℕ → ℕ → ℕ → ℕ → TileCoordinates
+abbrev pub tile : ℕ → ℕ → ℕ → ℕ → TileCoordinates ℕ
 tile x y i j = record { tile_index = pair x y; level_index = pair i j }
 
 -- the bounds of the block with a number, and its tile indices

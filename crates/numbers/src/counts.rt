@@ -8,6 +8,8 @@ use crate::rounding::RoundingMode;
 
 pub const LARGEST_LEVEL_INDEX: usize = 63;
 
+const LARGEST_COUNTED_SIDE: usize = u32::MAX as usize;
+
 const PAST_TOTAL: Refusal = Refusal {
     reason: Reason::PositionPastTotal,
     module: Module::Sides,
@@ -52,9 +54,11 @@ pub fn calculate_block_position_and_size(
 pub fn compute_level_count(round: RoundingMode, full_res: usize) -> Result<usize, Refusal>
     ensures { outcome result ≡ level_count round full_res }
 {
-    let counted = u32::try_from(full_res);
-    let full_res = counted.map_err(|_| Refusal::new(Reason::NumberOutOfRange, Module::Sides))?;
-    Ok(round.log2(full_res) as usize + 1)
+    if full_res <= LARGEST_COUNTED_SIDE {
+        Ok(round.log2(full_res as u32) as usize + 1)
+    } else {
+        Err(Refusal::new(Reason::NumberOutOfRange, Module::Sides))
+    }
 }
 
 pub fn compute_level_size(

@@ -15,16 +15,19 @@ use Rattle.schemes.specs.declared.level.Naming.TheVariants as by
 use Rattle.schemes.specs.Rows.{nth_some}
 use Rattle.schemes.proofs.Placed.{placed, there}
 use Rattle.blocks.specs.Numbering.{block_at, number_at, number_of, IsBlock}
+use Rattle.blocks.specs.Bounds.{tile_of}
+use Rattle.blocks.specs.Stored.{natural_tile, tile_and_level}
 use Rattle.blocks.specs.declared.block.Block.{Block}
+use Rattle.blocks.specs.declared.tile.TileCoordinates.{TileCoordinates}
 use Rattle.blocks.proofs.Clipping.{corner_in}
 use Rattle.blocks.proofs.Counts.{some_cases}
 use Rattle.blocks.proofs.Covering.{bounds_cut, pixels_once}
 use Rattle.blocks.proofs.Numbers.{numbered}
-use Rattle.prefixes.specs.Coordinates.{all_coordinates, coordinates_by, coordinates_of, fits_fields, signed, small}
+use Rattle.prefixes.specs.Coordinates.{all_coordinates, coordinates_by, coordinates_of, fits_fields, signed, signed_all, small}
 use Rattle.prefixes.specs.Laws.{BlocksKnown, HasCoordinates}
 use Rattle.prefixes.specs.Lookup.{looked_up, same_coordinates}
 use Rattle.numbers.specs.Pairs.{natural, naturals}
-use Rattle.prefixes.specs.Searching.{and_then, answer, line_search, row_of, search_for, tile_search, under_lines, under_tiles}
+use Rattle.prefixes.specs.Searching.{and_then, answer, in_level, line_search, row_of, search_for, tile_search, under_lines, under_tiles}
 use Rattle.prefixes.specs.declared.coordinates.BlockCoordinates.{BlockCoordinates}
 use Rattle.prefixes.specs.declared.coordinates.BlockCoordinates.TheVariants.{Line, Tile}
 use Rattle.prefixes.proofs.Fitting.{small_block, small_signed}
@@ -35,66 +38,73 @@ use Rattle.prefixes.proofs.Same.{first_at, first_none, same, self_same}
 as_lines : (m : Meaning) (position : Vec2 ℤ) (b : Block) → m.naming ≡ by.Line → coordinates_of m position b ≡ Line (position.1 +ℤ pos (m.block_height * b.row))
 as_lines m position b n = ap (λ v. coordinates_by v m position b) n
 
-as_tiles : (m : Meaning) (position : Vec2 ℤ) (b : Block) → m.naming ≡ by.Tile → coordinates_of m position b ≡ Tile (signed b.column b.row) (signed b.level.pair.0 b.level.pair.1)
+as_tiles : (m : Meaning) (position : Vec2 ℤ) (b : Block) → m.naming ≡ by.Tile → coordinates_of m position b ≡ Tile (signed_all (tile_of b))
 as_tiles m position b n = ap (λ v. coordinates_by v m position b) n
 
 -- tiles
 
-abbrev from_level : Meaning → Vec2 ℕ → Vec2 ℕ → Option ℕ
-from_level m t l = and_then (position_of m.levels l) (λ p. answer (number_at m p t.1 t.0))
-
-tile_found : (m : Meaning) → Lawful m → (position : Vec2 ℤ) (b : Block) → IsBlock m b → m.naming ≡ by.Tile → tile_search m (signed b.column b.row) (signed b.level.pair.0 b.level.pair.1) ≡ Some (number_of m b)
+tile_found : (m : Meaning) → Lawful m → (position : Vec2 ℤ) (b : Block) → IsBlock m b → m.naming ≡ by.Tile → tile_search m (signed_all (tile_of b)) ≡ Some (number_of m b)
 tile_found m ok position b k n =
-    let pair : Vec2 ℕ = record { 0 = b.level.pair.0; 1 = b.level.pair.1 } in
-    let tile : Vec2 ℕ = record { 0 = b.column; 1 = b.row } in
-    ap (λ v. under_tiles v (from_level m tile pair)) n
-    ∙ ap (λ o. and_then o (λ p. answer (number_at m p b.row b.column))) (sym (placed m.levels b.position b.level pair ok.distinct k.there refl refl))
+    ap (λ v. under_tiles v (in_level m (tile_of b))) n
+    ∙ ap (λ o. and_then o (λ p. answer (number_at m p b.row b.column))) (sym (placed m.levels b.position b.level b.level.pair ok.distinct k.there refl refl))
     ∙ ap answer (number_there m b k)
 
-natural_pair : (a : Vec2 ℤ) (p : Vec2 ℕ) → naturals a ≡ Some p → a ≡ signed p.0 p.1
+natural_pair : (a : Vec2 ℤ) (p : Vec2 ℕ) → naturals a ≡ Some p → a ≡ signed p
 natural_pair a p e = ints_are a.0 a.1 p e where
-  ints_are : (x y : ℤ) (q : Vec2 ℕ) → naturals (record { 0 = x; 1 = y }) ≡ Some q → record { 0 = x; 1 = y } ≡ signed q.0 q.1
-  ints_are (pos x) (pos y) q f = let g : record { 0 = x; 1 = y } ≡ q = cc in ap (λ (v : Vec2 ℕ). signed v.0 v.1) g
+  ints_are : (x y : ℤ) (q : Vec2 ℕ) → naturals (record { 0 = x; 1 = y }) ≡ Some q → record { 0 = x; 1 = y } ≡ signed q
+  ints_are (pos x) (pos y) q f = let g : record { 0 = x; 1 = y } ≡ q = cc in ap signed g
   ints_are (pos x) (negsuc y) q f = never_some None q refl f
   ints_are (negsuc x) (pos y) q f = never_some None q refl f
   ints_are (negsuc x) (negsuc y) q f = never_some None q refl f
 
-tile_sound : (m : Meaning) (position : Vec2 ℤ) (n : ℕ) (t l : Vec2 ℤ) → tile_search m t l ≡ Some n → HasCoordinates m position n (Tile t l)
-tile_sound m position n t l e =
-    let inner : Vec2 ℕ → Option ℕ = λ a. and_then (naturals l) (from_level m a) in
-    let rest = and_then (naturals t) inner in
+natural_tiles : (a : TileCoordinates ℤ) (t : TileCoordinates ℕ) → natural_tile a ≡ Some t → a ≡ signed_all t
+natural_tiles a t e = elim (some_cases (naturals a.tile_index)) [
+  | inl none ↦ elim (some_cases (naturals a.level_index)) [
+    | inl none_l ↦ never_some (natural_tile a) t (ap (λ o. tile_and_level o (naturals a.level_index)) none ∙ ap (tile_and_level None) none_l) e
+    | inr l ↦ never_some (natural_tile a) t (ap (λ o. tile_and_level o (naturals a.level_index)) none ∙ ap (tile_and_level None) l.1) e
+  ]
+  | inr c ↦ elim (some_cases (naturals a.level_index)) [
+    | inl none ↦ never_some (natural_tile a) t (ap (λ o. tile_and_level o (naturals a.level_index)) c.1 ∙ ap (tile_and_level (Some c.0)) none) e
+    | inr l ↦
+        let is : Some t ≡ tile_and_level (Some c.0) (Some l.0) = sym e ∙ ap (λ o. tile_and_level o (naturals a.level_index)) c.1 ∙ ap (tile_and_level (Some c.0)) l.1 in
+        let same : t ≡ record { tile_index = c.0; level_index = l.0 } = cc in
+        ap (λ v. record { tile_index = v; level_index = a.level_index }) (natural_pair a.tile_index c.0 c.1)
+        ∙ ap (λ v. record { tile_index = signed c.0; level_index = v }) (natural_pair a.level_index l.0 l.1)
+        ∙ ap signed_all (sym same)
+  ]
+]
+
+tile_sound : (m : Meaning) (position : Vec2 ℤ) (n : ℕ) (a : TileCoordinates ℤ) → tile_search m a ≡ Some n → HasCoordinates m position n (Tile a)
+tile_sound m position n a e =
+    let rest = and_then (natural_tile a) (in_level m) in
     elim (naming_cases m.naming) [
-      | inl nm ↦ never_some (tile_search m t l) n (ap (λ v. under_tiles v rest) nm) e
+      | inl nm ↦ never_some (tile_search m a) n (ap (λ v. under_tiles v rest) nm) e
       | inr nm ↦
           let found : rest ≡ Some n = sym (ap (λ v. under_tiles v rest) nm) ∙ e in
-          elim (some_cases (naturals t)) [
-            | inl none ↦ never_some rest n (ap (λ o. and_then o inner) none) found
-            | inr a ↦
-                let found_a : and_then (naturals l) (from_level m a.0) ≡ Some n = sym (ap (λ o. and_then o inner) a.1) ∙ found in
-                elim (some_cases (naturals l)) [
-                  | inl none ↦ never_some (and_then (naturals l) (from_level m a.0)) n (ap (λ o. and_then o (from_level m a.0)) none) found_a
-                  | inr q ↦
-                      let found_q : from_level m a.0 q.0 ≡ Some n = sym (ap (λ o. and_then o (from_level m a.0)) q.1) ∙ found_a in
-                      let at : ℕ → Option ℕ = λ p. answer (number_at m p a.0.1 a.0.0) in
-                      elim (some_cases (position_of m.levels q.0)) [
-                        | inl none ↦ never_some (from_level m a.0 q.0) n (ap (λ o. and_then o at) none) found_q
-                        | inr p ↦
-                            let s = stands m p.0 a.0.1 a.0.0 n (sym (ap (λ o. and_then o at) p.1) ∙ found_q) in
-                            let b = block_at p.0 s.level a.0.1 a.0.0 in
-                            let h = there m.levels p.0 q.0 p.1 in
-                            let at_p = h.1 in
-                            let level_there = s.is_block.there in
-                            let same_level : h.0 ≡ s.level = cc in
-                            let x : s.level.pair.0 ≡ q.0.0 = ap (λ (v : Level). v.pair.0) (sym same_level) ∙ h.2 in
-                            let y : s.level.pair.1 ≡ q.0.1 = ap (λ (v : Level). v.pair.1) (sym same_level) ∙ h.3 in
-                            ap (λ i. slice_get (all_coordinates m position) i) (sym s.is)
-                            ∙ has_coordinates m position b s.is_block
-                            ∙ ap Some (as_tiles m position b nm
-                            ∙ ap (λ v. Tile (signed a.0.0 a.0.1) (signed v s.level.pair.1)) x
-                            ∙ ap (λ v. Tile (signed a.0.0 a.0.1) (signed q.0.0 v)) y
-                            ∙ ap (λ v. Tile v (signed q.0.0 q.0.1)) (sym (natural_pair t a.0 a.1))
-                            ∙ ap (Tile t) (sym (natural_pair l q.0 q.1)))
-                      ]
+          elim (some_cases (natural_tile a)) [
+            | inl none ↦ never_some rest n (ap (λ o. and_then o (in_level m)) none) found
+            | inr s ↦
+                let t = s.0 in
+                let found_t : in_level m t ≡ Some n = sym (ap (λ o. and_then o (in_level m)) s.1) ∙ found in
+                let at : ℕ → Option ℕ = λ p. answer (number_at m p t.tile_index.1 t.tile_index.0) in
+                elim (some_cases (position_of m.levels t.level_index)) [
+                  | inl none ↦ never_some (in_level m t) n (ap (λ o. and_then o at) none) found_t
+                  | inr p ↦
+                      let k = stands m p.0 t.tile_index.1 t.tile_index.0 n (sym (ap (λ o. and_then o at) p.1) ∙ found_t) in
+                      let b = block_at p.0 k.level t.tile_index.1 t.tile_index.0 in
+                      let h = there m.levels p.0 t.level_index p.1 in
+                      let at_p = h.1 in
+                      let level_there = k.is_block.there in
+                      let same_level : h.0 ≡ k.level = cc in
+                      let x : k.level.pair.0 ≡ t.level_index.0 = ap (λ (v : Level). v.pair.0) (sym same_level) ∙ h.2 in
+                      let y : k.level.pair.1 ≡ t.level_index.1 = ap (λ (v : Level). v.pair.1) (sym same_level) ∙ h.3 in
+                      let make : ℕ → ℕ → Vec2 ℕ = λ i j. record { 0 = i; 1 = j } in
+                      let pair : k.level.pair ≡ t.level_index = ap (λ v. make v k.level.pair.1) x ∙ ap (make t.level_index.0) y in
+                      ap (λ i. slice_get (all_coordinates m position) i) (sym k.is)
+                      ∙ has_coordinates m position b k.is_block
+                      ∙ ap Some (as_tiles m position b nm
+                      ∙ ap (λ v. Tile (record { tile_index = signed t.tile_index; level_index = signed v })) pair
+                      ∙ ap Tile (sym (natural_tiles a t s.1)))
                 ]
           ]
     ]
@@ -162,7 +172,7 @@ line_sound m position n y e =
 
 sound : (m : Meaning) (position : Vec2 ℤ) (n : ℕ) (c : BlockCoordinates) → search_for m position c ≡ Some n → HasCoordinates m position n c
 sound m position n (Line y) e = line_sound m position n y e
-sound m position n (Tile t l) e = tile_sound m position n t l e
+sound m position n (Tile t) e = tile_sound m position n t e
 
 complete : (m : Meaning) → Lawful m → (position : Vec2 ℤ) (n : ℕ) (c : BlockCoordinates) → HasCoordinates m position n c → search_for m position c ≡ Some n
 complete m ok position n c e =
@@ -231,7 +241,7 @@ fits m ok position p n c e =
           ∙ line_small position.1 (m.block_height * b.row) b.level.height window.1 (corner_in m ok b k.is_block).1
       | inr nm ↦
           ap fits_fields (sym k.has ∙ as_tiles m position b nm)
-          ∙ and_from _ _ (small_signed _ _ s.column s.row) (small_signed _ _ s.level_x s.level_y)
+          ∙ and_from _ _ (small_signed (tile_of b).tile_index s.column s.row) (small_signed b.level.pair s.level_x s.level_y)
     ]
 
 pub blocks_known : (m : Meaning) → Lawful m → (position : Vec2 ℤ) → BlocksKnown m position

@@ -1,6 +1,7 @@
 -- The coordinates of a block of a lawful scheme are small.
 use Rattle.std.proofs.Common.{◌≡◌, ℕ, ◌*◌, ◌≤◌, true, pos, arith}
 use Rattle.std.proofs.lemmas.Bool.{and_from, le-leb}
+use Rattle.numbers.specs.declared.vec2.Vec2.{Vec2}
 use Rattle.schemes.specs.Meanings.{Meaning, Lawful}
 use Rattle.schemes.proofs.Counting.{ceiling_le}
 use Rattle.blocks.specs.Numbering.{IsBlock}
@@ -30,5 +31,5 @@ small_block m ok b k =
 small_pos : (n : ℕ) → n ≤ 2147483647 → small (pos n) ≡ true
 small_pos n h = le-leb n 2147483647 h
 
-pub small_signed : (x y : ℕ) → x ≤ 2147483647 → y ≤ 2147483647 → small_pair (signed x y) ≡ true
-small_signed x y h k = and_from _ _ (small_pos x h) (small_pos y k)
+pub small_signed : (p : Vec2 ℕ) → p.0 ≤ 2147483647 → p.1 ≤ 2147483647 → small_pair (signed p) ≡ true
+small_signed p h k = and_from _ _ (small_pos p.0 h) (small_pos p.1 k)

@@ -20,6 +20,9 @@ int_self : (a : ℤ) → same_int a a ≡ true
 int_self (pos a) = eq-eqb a a refl
 int_self (negsuc a) = eq-eqb a a refl
 
+ints_self : (a : Vec2 ℤ) → same_ints a a ≡ true
+ints_self a = and_from _ _ (int_self a.0) (int_self a.1)
+
 ints_same : (a b : Vec2 ℤ) → same_ints a b ≡ true → a ≡ b
 ints_same a b e =
     let p = and_parts (same_int a.0 b.0) (same_int a.1 b.1) e in
@@ -28,15 +31,16 @@ ints_same a b e =
 
 pub same : (a b : BlockCoordinates) → same_coordinates a b ≡ true → a ≡ b
 same (Line y) (Line z) e = ap Line (int_same y z e)
-same (Line y) (Tile t l) e = never e
-same (Tile t l) (Line y) e = never e
-same (Tile t l) (Tile u k) e =
-    let p = and_parts (same_ints t u) (same_ints l k) e in
-    ap (λ v. Tile v l) (ints_same t u p.0) ∙ ap (Tile u) (ints_same l k p.1)
+same (Line y) (Tile t) e = never e
+same (Tile t) (Line y) e = never e
+same (Tile t) (Tile u) e =
+    let p = and_parts (same_ints t.tile_index u.tile_index) (same_ints t.level_index u.level_index) e in
+    let make : Vec2 ℤ → Vec2 ℤ → BlockCoordinates = λ x y. Tile (record { tile_index = x; level_index = y }) in
+    ap (λ v. make v t.level_index) (ints_same _ _ p.0) ∙ ap (make u.tile_index) (ints_same _ _ p.1)
 
 pub self_same : (a : BlockCoordinates) → same_coordinates a a ≡ true
 self_same (Line y) = int_self y
-self_same (Tile t l) = and_from _ _ (and_from _ _ (int_self t.0) (int_self t.1)) (and_from _ _ (int_self l.0) (int_self l.1))
+self_same (Tile t) = and_from _ _ (ints_self t.tile_index) (ints_self t.level_index)
 
 -- one place passes, and no other
 first_one : {A : Type 0} (p : A → Bool) (k : ℕ) (xs : List A) (n : ℕ) (x : A) → slice_get xs n ≡ Some x → p x ≡ true → ((j : ℕ) (y : A) → slice_get xs j ≡ Some y → p y ≡ true → j ≡ n) → first_from k p xs ≡ Some (k + n)

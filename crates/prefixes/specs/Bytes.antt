@@ -10,6 +10,7 @@ use Rattle.schemes.specs.declared.level.Naming.{Naming}
 use Rattle.schemes.specs.declared.level.Naming.TheVariants as by
 use Rattle.blocks.specs.Numbering.{all_blocks}
 use Rattle.blocks.specs.declared.block.Block.{Block}
+use Rattle.blocks.specs.declared.tile.TileCoordinates.{TileCoordinates}
 use Rattle.prefixes.specs.Coordinates.{coordinates_of, fits_fields}
 use Rattle.prefixes.specs.declared.coordinates.BlockCoordinates.{BlockCoordinates}
 use Rattle.prefixes.specs.declared.coordinates.BlockCoordinates.TheVariants.{Line, Tile}
@@ -22,13 +23,13 @@ prefix_size by.Tile = 20
 
 abbrev pub naming_of : BlockCoordinates → Naming
 naming_of (Line y) = by.Line
-naming_of (Tile t l) = by.Tile
+naming_of (Tile t) = by.Tile
 
 -- the fields in their order
 abbrev pub prefix_fields : Prefix → List ℤ
 prefix_fields p = elim p.coordinates [
   | Line y ↦ y ∷ (pos p.data_length ∷ [])
-  | Tile t l ↦ t.0 ∷ (t.1 ∷ (l.0 ∷ (l.1 ∷ (pos p.data_length ∷ []))))
+  | Tile t ↦ t.tile_index.0 ∷ (t.tile_index.1 ∷ (t.level_index.0 ∷ (t.level_index.1 ∷ (pos p.data_length ∷ []))))
 ]
 
 abbrev pub size_of : Prefix → ℕ
@@ -47,9 +48,13 @@ abbrev pub with_length : BlockCoordinates → ℤ → Result Prefix Told
 with_length c (pos n) = Ok (record { coordinates = c; data_length = n })
 with_length c (negsuc n) = Err (refused 20 5 0)
 
+-- tile and level at the front of the bytes
+abbrev pub tile_at : List ℕ → TileCoordinates ℤ
+tile_at bytes = record { tile_index = ints_at bytes 0; level_index = ints_at bytes 8 }
+
 abbrev pub prefix_read : Naming → List ℕ → Result Prefix Told
 prefix_read by.Line bytes = cond (nat_le 8 (length bytes)) (with_length (Line (int_at bytes 0)) (int_at bytes 4)) (Err (refused 20 5 0))
-prefix_read by.Tile bytes = cond (nat_le 20 (length bytes)) (with_length (Tile (ints_at bytes 0) (ints_at bytes 8)) (int_at bytes 16)) (Err (refused 20 5 0))
+prefix_read by.Tile bytes = cond (nat_le 20 (length bytes)) (with_length (Tile (tile_at bytes)) (int_at bytes 16)) (Err (refused 20 5 0))
 
 -- what was written, where it was, is read again
 abbrev pub ComesBack : Prefix → Result ℕ Refusal → List ℕ → Type 0

@@ -6,9 +6,10 @@ use Rattle.numbers.specs.declared.vec2.Vec2.{Vec2}
 use Rattle.schemes.specs.Meanings.{Meaning, block_size}
 use Rattle.schemes.specs.declared.level.Naming.{Naming}
 use Rattle.schemes.specs.declared.level.Naming.TheVariants as by
-use Rattle.blocks.specs.Bounds.{corner}
+use Rattle.blocks.specs.Bounds.{corner, tile_of}
 use Rattle.blocks.specs.Numbering.{all_blocks}
 use Rattle.blocks.specs.declared.block.Block.{Block}
+use Rattle.blocks.specs.declared.tile.TileCoordinates.{TileCoordinates}
 use Rattle.prefixes.specs.declared.coordinates.BlockCoordinates.{BlockCoordinates}
 use Rattle.prefixes.specs.declared.coordinates.BlockCoordinates.TheVariants.{Line, Tile}
 
@@ -16,14 +17,17 @@ use Rattle.prefixes.specs.declared.coordinates.BlockCoordinates.TheVariants.{Lin
 abbrev pub first_line : Meaning → Vec2 ℤ → Block → ℤ
 first_line m position b = position.1 +ℤ pos (corner (block_size m) b).1
 
--- two numbers as signed ones
-abbrev pub signed : ℕ → ℕ → Vec2 ℤ
-signed x y = record { 0 = pos x; 1 = pos y }
+-- numbers as signed ones
+abbrev pub signed : Vec2 ℕ → Vec2 ℤ
+signed p = record { 0 = pos p.0; 1 = pos p.1 }
+
+abbrev pub signed_all : TileCoordinates ℕ → TileCoordinates ℤ
+signed_all t = record { tile_index = signed t.tile_index; level_index = signed t.level_index }
 
 -- under line naming the first line; under tile naming the column and row, and the level's pair
 abbrev pub coordinates_by : Naming → Meaning → Vec2 ℤ → Block → BlockCoordinates
 coordinates_by by.Line m position b = Line (first_line m position b)
-coordinates_by by.Tile m position b = Tile (signed b.column b.row) (signed b.level.pair.0 b.level.pair.1)
+coordinates_by by.Tile m position b = Tile (signed_all (tile_of b))
 
 abbrev pub coordinates_of : Meaning → Vec2 ℤ → Block → BlockCoordinates
 coordinates_of m position b = coordinates_by m.naming m position b
@@ -42,7 +46,7 @@ small_pair p = small p.0 && small p.1
 -- whether the fields of a prefix hold the coordinates
 abbrev pub fits_fields : BlockCoordinates → Bool
 fits_fields (Line y) = small y
-fits_fields (Tile t l) = small_pair t && small_pair l
+fits_fields (Tile t) = small_pair t.tile_index && small_pair t.level_index
 
 -- the coordinates as a prefix tells them: 16 where a field does not hold them
 abbrev pub telling : BlockCoordinates → Result BlockCoordinates Told

@@ -19,9 +19,9 @@ same_ints a b = same_int a.0 b.0 && same_int a.1 b.1
 
 abbrev pub same_coordinates : BlockCoordinates → BlockCoordinates → Bool
 same_coordinates (Line y) (Line z) = same_int y z
-same_coordinates (Line y) (Tile t l) = false
-same_coordinates (Tile t l) (Line y) = false
-same_coordinates (Tile t l) (Tile u k) = same_ints t u && same_ints l k
+same_coordinates (Line y) (Tile t) = false
+same_coordinates (Tile t) (Line y) = false
+same_coordinates (Tile t) (Tile u) = same_ints t.tile_index u.tile_index && same_ints t.level_index u.level_index
 
 -- the place of the first element that passes, the first of the list being at k
 abbrev pub first_from : {A : Type 0} → ℕ → (A → Bool) → List A → Option ℕ

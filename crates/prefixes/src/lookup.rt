@@ -9,6 +9,7 @@ ghost use Rattle.prefixes.specs.Searching.{line_search, search_for, tile_search}
 use crate::coordinates::BlockCoordinates;
 use crate::positioned::Positioned;
 use blocks::numbering::number_of_block;
+use blocks::tile::TileCoordinates;
 use numbers::refusal::{Module, Reason, Refusal};
 use numbers::vec2::Vec2;
 use schemes::level::Naming;
@@ -18,7 +19,11 @@ use schemes::scheme::Scheme;
 fn distance(y: i32, top: i32) -> Option<usize>
     ensures { result ≡ natural (y -ℤ top) }
 {
-    usize::try_from(i64::from(y) - i64::from(top)).ok()
+    if y >= top {
+        Some((i64::from(y) - i64::from(top)) as usize)
+    } else {
+        None
+    }
 }
 
 impl<S: Scheme> Positioned<S> {
@@ -40,16 +45,16 @@ impl<S: Scheme> Positioned<S> {
         }
     }
 
-    fn find_tile(&self, tile: Vec2<i32>, level: Vec2<i32>) -> Option<usize>
-        ensures { result ≡ tile_search (S.Scheme.meaning self.now.scheme) tile level }
+    fn find_tile(&self, tile: TileCoordinates<i32>) -> Option<usize>
+        ensures { result ≡ tile_search (S.Scheme.meaning self.now.scheme) tile }
     {
         match self.scheme.naming() {
             Naming::Line => None,
             Naming::Tile => {
-                let tile = Vec2::<usize>::try_from(tile).ok()?;
-                let level = Vec2::<usize>::try_from(level).ok()?;
-                let position = self.scheme.position(level)?;
-                number_of_block(&self.scheme, position, tile.1, tile.0).ok()
+                let tile = TileCoordinates::<usize>::try_from(tile).ok()?;
+                let position = self.scheme.position(tile.level_index)?;
+                let Vec2(column, row) = tile.tile_index;
+                number_of_block(&self.scheme, position, row, column).ok()
             }
         }
     }
@@ -59,10 +64,7 @@ impl<S: Scheme> Positioned<S> {
     {
         match coordinates {
             BlockCoordinates::Line { y } => self.find_line(y),
-            BlockCoordinates::Tile {
-                tile_index,
-                level_index,
-            } => self.find_tile(tile_index, level_index),
+            BlockCoordinates::Tile(tile) => self.find_tile(tile),
         }
     }
 

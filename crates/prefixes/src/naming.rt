@@ -1,8 +1,6 @@
 // How long a prefix is, and the coordinates of a block by its number.
 ghost use Rattle.std.specs.Prelude.{◌≡◌, ◌≤◌, pos, negsuc, ◌+ℤ◌};
-ghost use Rattle.numbers.specs.Refusals.{outcome, refused};
-ghost use Rattle.numbers.specs.Pairs.{signed_pair};
-ghost use Rattle.std.specs.Option.{ok_or};
+ghost use Rattle.numbers.specs.Refusals.{outcome};
 ghost use Rattle.numbers.specs.Wholes.{within};
 ghost use Rattle.blocks.specs.Numbering.{IsBlock};
 ghost use Rattle.prefixes.specs.Bytes.{naming_of, prefix_size};
@@ -12,8 +10,8 @@ use crate::coordinates::BlockCoordinates;
 use crate::positioned::Positioned;
 use blocks::block::Block;
 use blocks::numbering::find_block;
+use blocks::tile::TileCoordinates;
 use numbers::refusal::{Module, Reason, Refusal};
-use numbers::vec2::Vec2;
 use schemes::level::Naming;
 use schemes::scheme::Scheme;
 
@@ -40,15 +38,9 @@ impl BlockCoordinates {
     {
         match self {
             BlockCoordinates::Line { .. } => Naming::Line,
-            BlockCoordinates::Tile { .. } => Naming::Tile,
+            BlockCoordinates::Tile(_) => Naming::Tile,
         }
     }
-}
-
-fn stored(pair: Vec2<usize>) -> Result<Vec2<i32>, Refusal>
-    ensures { outcome result ≡ ok_or (signed_pair pair) (refused 16 5 0) }
-{
-    Vec2::<i32>::try_from(pair).map_err(|_| TOO_LARGE)
 }
 
 // A line so many rows below the top, where 32 signed bits hold it.
@@ -71,10 +63,10 @@ impl<S: Scheme> Positioned<S> {
                 let y = line_below(self.position.1, rows).ok_or(TOO_LARGE)?;
                 Ok(BlockCoordinates::Line { y })
             }
-            Naming::Tile => Ok(BlockCoordinates::Tile {
-                tile_index: stored(Vec2(block.column, block.row))?,
-                level_index: stored(block.level.pair)?,
-            }),
+            Naming::Tile => {
+                let tile = TileCoordinates::<i32>::try_from(block.tile_coordinates());
+                Ok(BlockCoordinates::Tile(tile.map_err(|_| TOO_LARGE)?))
+            }
         }
     }
 

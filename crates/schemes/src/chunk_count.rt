@@ -22,9 +22,10 @@ pub fn count_blocks<S: Scheme>(scheme: &S, block: Vec2<Side>, levels: usize) -> 
     ensures { result ≡ sum_by (blocks_in (pixels_of_both block)) (take levels (S.Scheme.meaning scheme.now).levels) }
 {
     let mut total = 0;
-    for position in 0..levels.min(scheme.level_count()) {
-        if let Some(level) = scheme.level(position) {
-            total += level_block_count(level, block);
+    for position in 0..levels {
+        match scheme.level(position) {
+            Some(level) => total += level_block_count(level, block),
+            None => break,
         }
     }
     total

@@ -100,7 +100,7 @@ on_channels cs (P number length) = stays (channels cs) not_now
 on_channels cs N = stays (channels cs) not_now
 on_channels cs (Q number) = stays (channels cs) not_now
 on_channels cs (Y y) = stays (channels cs) not_now
-on_channels cs (X tile level) = stays (channels cs) not_now
+on_channels cs (X tile) = stays (channels cs) not_now
 
 abbrev pub stepped : Held → Command → Held × Said
 stepped (channels cs) command = on_channels cs command

@@ -14,7 +14,7 @@ impl Layer {
     pub fn get_scan_line_block_tile_coordinates(
         &self,
         block_y_coordinate: i32,
-    ) -> Result<TileCoordinates, Refusal>
+    ) -> Result<TileCoordinates<usize>, Refusal>
         ensures { outcome result ≡ line_row (laid self.now) (lines_of self.now) block_y_coordinate }
     {
         let distance = block_y_coordinate

@@ -29,7 +29,7 @@ impl Layer {
     // Inside its level, whose corner is (0, 0).
     pub fn get_absolute_block_pixel_coordinates(
         &self,
-        tile: TileCoordinates,
+        tile: TileCoordinates<usize>,
     ) -> Result<IntegerBounds, Refusal>
         ensures value { outcome result ≡ block_pixels (laid self.now).scheme tile }
         ensures block { BoundsByTile (laid self.now).scheme tile result }
@@ -37,7 +37,7 @@ impl Layer {
         self.level_pixels(tile)
     }
 
-    fn level_pixels(&self, tile: TileCoordinates) -> Result<IntegerBounds, Refusal>
+    fn level_pixels(&self, tile: TileCoordinates<usize>) -> Result<IntegerBounds, Refusal>
         ensures { outcome result ≡ block_pixels (laid self.now).scheme tile }
     {
         if is_too_deep(self.positioned.scheme.naming(), tile.level_index) {
@@ -55,7 +55,7 @@ impl Layer {
     // In the plane of the layer, where positions may be negative.
     pub fn get_block_data_window_pixel_coordinates(
         &self,
-        tile: TileCoordinates,
+        tile: TileCoordinates<usize>,
     ) -> Result<IntegerBounds, Refusal>
         ensures { outcome result ≡ plane_pixels (laid self.now) tile }
     {

@@ -1,7 +1,7 @@
 -- The buffer holds the fields as they were written, so they are read again.
 use Rattle.std.proofs.Common.{◌≡◌, ◌≤◌, length, ap, ◌∙◌, arith, w32, SFits, rules}
 use Rattle.prefixes.specs.Bytes.{buffer_with, prefix_size, size_of}
-use Rattle.prefixes.proofs.Writing.{line_comes, tile_comes}
+use Rattle.prefixes.proofs.Writing.{TileFits, line_comes, tile_comes}
 use Rattle.prefixes.proofs.prefix.Prefix.write.Goals as goal
 use Rattle.prefixes.proofs.prefix.Prefix.write.Goals.{in-Line, in-Tile}
 
@@ -19,10 +19,7 @@ returns-clause-back c =
           let holds : new ≡ buffer_with p old = search rules in
           line_comes p w.in-Line.y old new c.ok_or-2.result w.in-Line.is y room short holds
       | in-Tile w ↦
-          let tx : SFits w32 w.in-Tile.tile.0 = search rules in
-          let ty : SFits w32 w.in-Tile.tile.1 = search rules in
-          let lx : SFits w32 w.in-Tile.level.0 = search rules in
-          let ly : SFits w32 w.in-Tile.level.1 = search rules in
+          let fits : TileFits w.in-Tile.field-0 = record { column = search rules; row = search rules; level_x = search rules; level_y = search rules } in
           let holds : new ≡ buffer_with p old = search rules in
-          tile_comes p w.in-Tile.tile w.in-Tile.level old new c.ok_or-2.result w.in-Tile.is tx ty lx ly room short holds
+          tile_comes p w.in-Tile.field-0 old new c.ok_or-2.result w.in-Tile.is fits room short holds
     ]

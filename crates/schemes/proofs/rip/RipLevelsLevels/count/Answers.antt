@@ -6,6 +6,6 @@ use Rattle.schemes.proofs.rip.RipLevelsLevels.count.Goals as goal
 pub returns : goal.returns
 returns c =
     let s = c.args.self.now in
-    ap (λ x. x * c.level_count-across.result) c.level_count-down.ensures.count
-    ∙ ap (λ x. levels_of s.rounding_mode s.size.1.pixels * x) c.level_count-across.ensures.count
+    ap (λ x. x * c.counts-across.result.0) c.counts-across.ensures.down
+    ∙ ap (λ x. levels_of s.rounding_mode s.size.1.pixels * x) c.counts-across.ensures.across
     ∙ sym (rip_length s.rounding_mode s.size.0.pixels s.size.1.pixels)

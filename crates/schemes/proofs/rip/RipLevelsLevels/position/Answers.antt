@@ -14,8 +14,8 @@ returns-then-pair-down c =
     let w = s.size.0.pixels in
     let h = s.size.1.pixels in
     let p = c.args.pair in
-    let n : c.level_count-across.result ≡ levels_of m w = c.level_count-across.ensures.count in
-    let k : c.level_count-down.result ≡ levels_of m h = c.level_count-down.ensures.count in
+    let n : c.counts-across.result.0 ≡ levels_of m w = c.counts-across.ensures.across in
+    let k : c.counts-across.result.1 ≡ levels_of m h = c.counts-across.ensures.down in
     let ok = rip_levels_lawful m w h s.size.0.ranged s.size.1.ranged in
     ap (λ x. Some (p.1 * x + p.0)) n
     ∙ placed (rip_levels m w h) (p.1 * levels_of m w + p.0) (level_at m w h p.0 p.1) p
@@ -28,8 +28,8 @@ returns-else-pair-across c =
     let w = s.size.0.pixels in
     let h = s.size.1.pixels in
     let p = c.args.pair in
-    let n : c.level_count-across.result ≡ levels_of m w = c.level_count-across.ensures.count in
-    let k : c.level_count-down.result ≡ levels_of m h = c.level_count-down.ensures.count in
+    let n : c.counts-across.result.0 ≡ levels_of m w = c.counts-across.ensures.across in
+    let k : c.counts-across.result.1 ≡ levels_of m h = c.counts-across.ensures.down in
     unplaced (rip_levels m w h) p
     (λ i l e a b.
     let is = rip_is m w h i l e in
