@@ -5,4 +5,5 @@ pub mod Bounds
 pub mod Orders
 pub mod Pixels
 pub mod Stored
+pub mod Behind
 pub mod Tiles

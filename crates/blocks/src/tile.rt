@@ -1,8 +1,10 @@
 // Blocks by tile indices and level pair, also those of scan lines, which are tiles as wide as the layer.
-ghost use Rattle.std.specs.Prelude.{◌≡◌};
+ghost use Rattle.std.specs.Prelude.{◌≡◌, ◌+◌};
 ghost use Rattle.std.specs.Result.{result_ok};
-ghost use Rattle.blocks.specs.Stored.{natural_tile, signed_tile};
+ghost use Rattle.blocks.specs.Behind.{tile_behind};
+ghost use Rattle.blocks.specs.Stored.{natural_tile, signed_tile, tile_at};
 
+use fields::field::Field;
 use numbers::vec2::{OutOfRange, Vec2};
 
 // Column and row of a block in its level, and the level's pair: sizes where they are counted with, signed numbers where
@@ -20,15 +22,33 @@ pub struct TileIndices {
     pub size: Vec2<usize>,
 }
 
+// Stored, the tile's pair stands before the level's.
+impl<T: Field> Field for TileCoordinates<T> {
+    ghost width = { T.width + T.width + (T.width + T.width) };
+
+    ghost value = { tile_at T.width T.value };
+
+    ghost behind = { tile_behind T.width T.value T.behind };
+
+    fn read(bytes: &[u8]) -> Option<(TileCoordinates<T>, &[u8])> {
+        let ((tile_index, level_index), rest) = <(Vec2<T>, Vec2<T>)>::read(bytes)?;
+        let tile = TileCoordinates {
+            tile_index,
+            level_index,
+        };
+        Some((tile, rest))
+    }
+}
+
 impl TryFrom<TileCoordinates<usize>> for TileCoordinates<i32> {
     type Error = OutOfRange;
 
-    ghost try_from_gives = { λ tile r. result_ok r ≡ signed_tile tile };
+    ghost try_from_gives = { λ counted r. result_ok r ≡ signed_tile counted };
 
-    fn try_from(tile: TileCoordinates<usize>) -> Result<TileCoordinates<i32>, OutOfRange> {
+    fn try_from(counted: TileCoordinates<usize>) -> Result<TileCoordinates<i32>, OutOfRange> {
         Ok(TileCoordinates {
-            tile_index: tile.tile_index.try_into()?,
-            level_index: tile.level_index.try_into()?,
+            tile_index: counted.tile_index.try_into()?,
+            level_index: counted.level_index.try_into()?,
         })
     }
 }
@@ -36,12 +56,12 @@ impl TryFrom<TileCoordinates<usize>> for TileCoordinates<i32> {
 impl TryFrom<TileCoordinates<i32>> for TileCoordinates<usize> {
     type Error = OutOfRange;
 
-    ghost try_from_gives = { λ tile r. result_ok r ≡ natural_tile tile };
+    ghost try_from_gives = { λ stored r. result_ok r ≡ natural_tile stored };
 
-    fn try_from(tile: TileCoordinates<i32>) -> Result<TileCoordinates<usize>, OutOfRange> {
+    fn try_from(stored: TileCoordinates<i32>) -> Result<TileCoordinates<usize>, OutOfRange> {
         Ok(TileCoordinates {
-            tile_index: tile.tile_index.try_into()?,
-            level_index: tile.level_index.try_into()?,
+            tile_index: stored.tile_index.try_into()?,
+            level_index: stored.level_index.try_into()?,
         })
     }
 }

@@ -16,7 +16,8 @@ const OUTSIDE: Refusal = Refusal {
     place: 0,
 };
 
-const TOO_LARGE: Refusal = Refusal {
+// Where a position leaves 32 signed bits.
+pub const TOO_LARGE: Refusal = Refusal {
     reason: Reason::PositionTooLarge,
     module: Module::Prefixes,
     place: 0,

@@ -1,4 +1,4 @@
-// Sums, differences and products of pairs, absent where a part leaves its kind's range.
+// Sums, differences, products and conversions of pairs, absent where a part leaves its kind's range.
 use numbers::vec2::Vec2;
 use numbers::whole::Whole;
 
@@ -34,4 +34,18 @@ fn positions(rt: HostRuntime) {
         Some(Vec2(-2147483648, -6))
     );
     assert_eq!(rt; Vec2(65536i32, 2).product(Vec2(32768, 3)), None);
+}
+
+#[test]
+fn conversions(rt: HostRuntime) {
+    assert_eq!(rt;
+        Vec2::<i32>::try_from(Vec2(2147483647usize, 0)).ok(),
+        Some(Vec2(2147483647, 0))
+    );
+    assert_eq!(rt; Vec2::<i32>::try_from(Vec2(0usize, 2147483648)).ok(), None);
+    assert_eq!(rt;
+        Vec2::<usize>::try_from(Vec2(0i32, 2147483647)).ok(),
+        Some(Vec2(0, 2147483647))
+    );
+    assert_eq!(rt; Vec2::<usize>::try_from(Vec2(-1i32, 0)).ok(), None);
 }

@@ -98,3 +98,33 @@ fn in_a_window(rt: HostRuntime) {
         (-2147483644, -2147483646, 1, 1)
     );
 }
+
+#[test]
+fn as_they_are_stored(rt: HostRuntime) {
+    let counted = TileCoordinates {
+        tile_index: Vec2(3usize, 2147483647),
+        level_index: Vec2(0usize, 1),
+    };
+    let stored = TileCoordinates {
+        tile_index: Vec2(3i32, 2147483647),
+        level_index: Vec2(0i32, 1),
+    };
+    assert_eq!(rt;
+        TileCoordinates::<i32>::try_from(counted).ok(),
+        Some(stored)
+    );
+    assert_eq!(rt;
+        TileCoordinates::<usize>::try_from(stored).ok(),
+        Some(counted)
+    );
+    let far = TileCoordinates {
+        tile_index: Vec2(2147483648, 0),
+        ..counted
+    };
+    assert_eq!(rt; TileCoordinates::<i32>::try_from(far).ok(), None);
+    let below = TileCoordinates {
+        level_index: Vec2(0, -1),
+        ..stored
+    };
+    assert_eq!(rt; TileCoordinates::<usize>::try_from(below).ok(), None);
+}

@@ -8,6 +8,7 @@ use Rattle.layout.specs.declared.attribute.LevelMode.{LevelMode}
 use Rattle.layout.specs.Codes.{level_mode, sample_type}
 use Rattle.blocks.specs.declared.line_order.LineOrder.{LineOrder}
 use Rattle.blocks.specs.Codes.{line_order}
+use Rattle.blocks.specs.Stored.{tile_ints_at}
 use Rattle.fields.specs.Bytes.{byte_at, half_at, int_at, ints_at, long_at, word_at, words_at}
 use Rattle.commands.specs.declared.command.Command.{Command}
 use Rattle.commands.specs.declared.command.Command.TheVariants.{C, S, T, O, F, B, P, N, Q, Y, X}
@@ -60,7 +61,7 @@ command letter ops =
     (cond (letter == 78) (Some N)
     (cond (letter == 81) (Some (Q (long_at ops 0)))
     (cond (letter == 89) (Some (Y (int_at ops 0)))
-    (cond (letter == 88) (Some (X (record { tile_index = ints_at ops 0; level_index = ints_at ops 8 })))
+    (cond (letter == 88) (Some (X (tile_ints_at ops 0)))
     None))))))))))
 
 -- the command at the front of the bytes and the bytes after it; nothing where it can't be read

@@ -141,10 +141,6 @@ fn line_lookup(bytes: &[u8]) -> Option<(Command, &[u8])>
 fn tile_lookup(bytes: &[u8]) -> Option<(Command, &[u8])>
     ensures { seen result ≡ read_command (88 ∷ bytes.now) }
 {
-    let ((tile_index, level_index), rest) = <(Vec2<i32>, Vec2<i32>)>::read(bytes)?;
-    let tile = TileCoordinates {
-        tile_index,
-        level_index,
-    };
+    let (tile, rest) = TileCoordinates::<i32>::read(bytes)?;
     Some((Command::X(tile), rest))
 }

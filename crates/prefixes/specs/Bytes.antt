@@ -4,13 +4,13 @@ use Rattle.std.specs.List.{slice_get}
 use Rattle.numbers.specs.Refusals.{Told, refused}
 use Rattle.numbers.specs.declared.refusal.Refusal.{Refusal}
 use Rattle.numbers.specs.declared.vec2.Vec2.{Vec2}
-use Rattle.fields.specs.Bytes.{int_at, ints_at, ints_bytes, over}
+use Rattle.fields.specs.Bytes.{int_at, ints_bytes, over}
 use Rattle.schemes.specs.Meanings.{Meaning}
 use Rattle.schemes.specs.declared.level.Naming.{Naming}
 use Rattle.schemes.specs.declared.level.Naming.TheVariants as by
 use Rattle.blocks.specs.Numbering.{all_blocks}
 use Rattle.blocks.specs.declared.block.Block.{Block}
-use Rattle.blocks.specs.declared.tile.TileCoordinates.{TileCoordinates}
+use Rattle.blocks.specs.Stored.{tile_ints_at}
 use Rattle.prefixes.specs.Coordinates.{coordinates_of, fits_fields}
 use Rattle.prefixes.specs.declared.coordinates.BlockCoordinates.{BlockCoordinates}
 use Rattle.prefixes.specs.declared.coordinates.BlockCoordinates.TheVariants.{Line, Tile}
@@ -48,13 +48,9 @@ abbrev pub with_length : BlockCoordinates → ℤ → Result Prefix Told
 with_length c (pos n) = Ok (record { coordinates = c; data_length = n })
 with_length c (negsuc n) = Err (refused 20 5 0)
 
--- tile and level at the front of the bytes
-abbrev pub tile_at : List ℕ → TileCoordinates ℤ
-tile_at bytes = record { tile_index = ints_at bytes 0; level_index = ints_at bytes 8 }
-
 abbrev pub prefix_read : Naming → List ℕ → Result Prefix Told
 prefix_read by.Line bytes = cond (nat_le 8 (length bytes)) (with_length (Line (int_at bytes 0)) (int_at bytes 4)) (Err (refused 20 5 0))
-prefix_read by.Tile bytes = cond (nat_le 20 (length bytes)) (with_length (Tile (tile_at bytes)) (int_at bytes 16)) (Err (refused 20 5 0))
+prefix_read by.Tile bytes = cond (nat_le 20 (length bytes)) (with_length (Tile (tile_ints_at bytes 0)) (int_at bytes 16)) (Err (refused 20 5 0))
 
 -- what was written, where it was, is read again
 abbrev pub ComesBack : Prefix → Result ℕ Refusal → List ℕ → Type 0

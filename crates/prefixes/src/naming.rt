@@ -11,15 +11,10 @@ use crate::positioned::Positioned;
 use blocks::block::Block;
 use blocks::numbering::find_block;
 use blocks::tile::TileCoordinates;
-use numbers::refusal::{Module, Reason, Refusal};
+use blocks::tile_indices::TOO_LARGE;
+use numbers::refusal::Refusal;
 use schemes::level::Naming;
 use schemes::scheme::Scheme;
-
-const TOO_LARGE: Refusal = Refusal {
-    reason: Reason::PositionTooLarge,
-    module: Module::Prefixes,
-    place: 0,
-};
 
 // In bytes.
 pub fn prefix_size(naming: Naming) -> usize

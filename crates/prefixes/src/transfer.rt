@@ -1,8 +1,9 @@
 // Prefixes written to a lent buffer and read from lent bytes.
 ghost use Rattle.std.specs.Prelude.{◌≡◌, length as bytes_in, if◌then◌else◌, Some, None, nat_le};
+ghost use Rattle.blocks.specs.Stored.{tile_ints_at};
 ghost use Rattle.fields.specs.Bytes.{int_at};
 ghost use Rattle.numbers.specs.Refusals.{outcome};
-ghost use Rattle.prefixes.specs.Bytes.{ComesBack, buffer_with, prefix_read, tile_at, written};
+ghost use Rattle.prefixes.specs.Bytes.{ComesBack, buffer_with, prefix_read, written};
 ghost use Rattle.prefixes.specs.declared.coordinates.BlockCoordinates.TheVariants.{Line as at_line, Tile as at_tile};
 
 use crate::coordinates::BlockCoordinates;
@@ -12,7 +13,6 @@ use blocks::tile::TileCoordinates;
 use fields::field::Field;
 use fields::write::write_ints;
 use numbers::refusal::{Module, Reason, Refusal};
-use numbers::vec2::Vec2;
 use schemes::level::Naming;
 
 pub(crate) const UNREADABLE: Refusal = Refusal {
@@ -35,13 +35,9 @@ fn read_line(bytes: &[u8]) -> Option<(BlockCoordinates, i32)>
 }
 
 fn read_tile(bytes: &[u8]) -> Option<(BlockCoordinates, i32)>
-    ensures { result ≡ (if nat_le 20 (bytes_in bytes.now) then Some (at_tile (tile_at bytes.now), int_at bytes.now 16) else None) }
+    ensures { result ≡ (if nat_le 20 (bytes_in bytes.now) then Some (at_tile (tile_ints_at bytes.now 0), int_at bytes.now 16) else None) }
 {
-    let ((tile_index, level_index, data_length), _) = <(Vec2<i32>, Vec2<i32>, i32)>::read(bytes)?;
-    let tile = TileCoordinates {
-        tile_index,
-        level_index,
-    };
+    let ((tile, data_length), _) = <(TileCoordinates<i32>, i32)>::read(bytes)?;
     Some((BlockCoordinates::Tile(tile), data_length))
 }
 
@@ -74,12 +70,11 @@ impl Prefix {
         let data_length = i32::try_from(self.data_length).ok().ok_or(DATA_TOO_LONG)?;
         let count = match self.coordinates {
             BlockCoordinates::Line { y } => write_ints(buffer, &[y, data_length]),
-            BlockCoordinates::Tile(
-                TileCoordinates {
-                    tile_index: tile,
-                    level_index: level,
-                },
-            ) => write_ints(buffer, &[tile.0, tile.1, level.0, level.1, data_length]),
+            BlockCoordinates::Tile(coordinates) => {
+                let tile = coordinates.tile_index;
+                let level = coordinates.level_index;
+                write_ints(buffer, &[tile.0, tile.1, level.0, level.1, data_length])
+            }
         };
         count.ok_or(UNREADABLE)
     }
