@@ -23,7 +23,7 @@ corner_in m ok b k = (
 pub tile_bounds : (m : Meaning) → Lawful m → (b : Block) → IsBlock m b → data_indices (block_size m) (level_size b.level) (tile_of b) ≡ Ok (bounds_of (block_size m) b)
 tile_bounds m ok b k =
     let c = corner_in m ok b k in
-    let s = ok.sides b.position b.level k.there in
+    let s = ok.levels.sides b.position b.level k.there in
     let x = m.block_width * b.column in
     let y = m.block_height * b.row in
     cond-true _ _ _ (and_from _ _ (lt-ltb _ _ c.0) (lt-ltb _ _ c.1))

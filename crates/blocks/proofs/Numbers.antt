@@ -1,17 +1,20 @@
 -- Each block stands at its number, and each number below the chunk count has a block.
-use Rattle.std.proofs.Common.{◌≡◌, ℕ, ◌+◌, ◌*◌, ◌/◌, ◌%◌, ◌^◌, ◌<◌, length, Some, sym, ap, ◌∙◌, subst, zero-add, arith}
+use Rattle.std.proofs.Common.{◌≡◌, ℕ, ◌+◌, ◌*◌, ◌/◌, ◌%◌, ◌^◌, ◌<◌, length, take, sum_by, Some, sym, ap, ◌∙◌, subst, zero-add, arith}
 use Rattle.std.specs.List.{slice_get}
+use Rattle.numbers.specs.Wholes.{optional}
+use Rattle.numbers.specs.declared.vec2.Vec2.{Vec2}
 use Rattle.schemes.specs.Blocks.{blocks_in, chunks_in}
 use Rattle.schemes.specs.Meanings.{Meaning, Lawful, area, block_size}
 use Rattle.schemes.proofs.Counting.{chunks_le, sumBy_mono}
 use Rattle.schemes.specs.Rows.{nth_some}
 use Rattle.blocks.specs.Numbering.{across, down, block_at, all_blocks, blocks_by, blocks_before, number_of, IsBlock, Numbered}
+use Rattle.blocks.specs.Cuts.{cut_of}
 use Rattle.blocks.specs.Orders.{turned}
 use Rattle.blocks.specs.declared.block.Block.{Block}
 use Rattle.blocks.specs.declared.line_order.LineOrder.{LineOrder}
 use Rattle.blocks.specs.declared.line_order.LineOrder.TheVariants.{Increasing}
 use Rattle.blocks.specs.declared.cut.Cut.{Cut}
-use Rattle.blocks.proofs.Cutting.{IsCut}
+use Rattle.blocks.proofs.Cutting.{IsCut, is_cut}
 use Rattle.blocks.proofs.Listing.{blocks_length, level_on, split_at, split}
 
 -- the block whose row is counted in the line order
@@ -65,7 +68,7 @@ number_below m b k = listed_below Increasing m (number_of m b) _ (by_number Incr
 
 pub count_fits : (m : Meaning) → Lawful m → chunks_in m < 2 ^ 64
 count_fits m ok =
-    let fits = ok.fits in
+    let fits = ok.levels.fits in
     omega (arith, sumBy_mono (blocks_in (block_size m)) area (chunks_le (block_size m) ok.block_wide.0 ok.block_high.0) m.levels)
 
 -- the block at a place of a level that was cut
@@ -76,7 +79,10 @@ placed m p r c k cut hr hc = record {
   column_in = subst (λ n. c < n) cut.across_is hc;
 }
 
-pub number_fits : (m : Meaning) → Lawful m → (p r c : ℕ) (k : Cut) → IsCut (block_size m) (slice_get m.levels p) k → r < k.down → c < k.across → blocks_before m p + (r * k.across + c) < 2 ^ 64
-number_fits m ok p r c k cut hr hc =
+-- with the blocks before a cut level counted, a block's number in it fits
+pub number_fits : (m : Meaning) → Lawful m → (p r c before : ℕ) (k : Cut) (size : Vec2 ℕ) → Some k ≡ optional (cut_of (block_size m)) (slice_get m.levels p) → before ≡ sum_by (blocks_in size) (take p m.levels) → size ≡ block_size m → r < k.down → c < k.across → before + (r * k.across + c) < 2 ^ 64
+number_fits m ok p r c before k size e counted sized hr hc =
+    let cut = is_cut (block_size m) (slice_get m.levels p) k e in
+    let all : before ≡ blocks_before m p = counted ∙ ap (λ b. sum_by (blocks_in b) (take p m.levels)) sized in
     let same : r * k.across ≡ r * across (block_size m) k.level = ap (λ n. r * n) cut.across_is in
     omega (arith, number_below m _ (placed m p r c k cut hr hc), count_fits m ok)

@@ -53,6 +53,25 @@ fn past_the_last_line(rt: HostRuntime) -> Result<(), Fail> {
     Ok(())
 }
 
+// A scheme that is only lent has the blocks that it has.
+#[test]
+fn of_a_lent_scheme(rt: HostRuntime) -> Result<(), Fail> {
+    let Some(scheme) = scheme() else {
+        return Err(Fail::new("three sides"));
+    };
+    let image = Positioned {
+        scheme: &scheme,
+        position: Vec2(0, -3),
+    };
+    assert_eq!(rt;
+        image.block_coordinates(1).ok(),
+        Some(BlockCoordinates::Line { y: -1 })
+    );
+    assert_eq!(rt; told(image.lookup(BlockCoordinates::Line { y: -3 })), 0);
+    assert_eq!(rt; told(image.lookup(BlockCoordinates::Line { y: -2 })), 1021);
+    Ok(())
+}
+
 fn fields(naming: Naming, bytes: &[u8]) -> Option<(BlockCoordinates, usize)> {
     let prefix = Prefix::read(naming, bytes).ok()?;
     Some((prefix.coordinates, prefix.data_length))

@@ -34,9 +34,9 @@ not_deep Tile pair a b = grind (arith, nat_tests)
 pub tile_pixels : (m : Meaning) → Lawful m → (n : ℕ) (b : Block) (t : TileCoordinates ℕ) → slice_get (all_blocks m) n ≡ Some b → tile_of b ≡ t → block_pixels m t ≡ Ok (bounds_of (block_size m) b)
 tile_pixels m ok n b t e is =
     let k = ((numbered m).listed n b e).0 in
-    let low = ok.pairs b.position b.level k.there in
+    let low = ok.levels.pairs b.position b.level k.there in
     let pair = b.level.pair in
-    let found : position_of m.levels pair ≡ Some b.position = sym (levels.placed m.levels b.position b.level pair ok.distinct k.there refl refl) in
+    let found : position_of m.levels pair ≡ Some b.position = sym (levels.placed m.levels b.position b.level pair ok.levels.distinct k.there refl refl) in
     ap (block_pixels m) (sym is)
     ∙ cond-false _ _ _ (not_deep m.naming pair low.0 low.1)
     ∙ ap (λ o. in_level m (tile_of b) (level_at_place m.levels o)) found

@@ -46,7 +46,7 @@ as_tiles m position b n = ap (λ v. coordinates_by v m position b) n
 tile_found : (m : Meaning) → Lawful m → (position : Vec2 ℤ) (b : Block) → IsBlock m b → m.naming ≡ by.Tile → tile_search m (signed_all (tile_of b)) ≡ Some (number_of m b)
 tile_found m ok position b k n =
     ap (λ v. under_tiles v (in_level m (tile_of b))) n
-    ∙ ap (λ o. and_then o (λ p. answer (number_at m p b.row b.column))) (sym (placed m.levels b.position b.level b.level.pair ok.distinct k.there refl refl))
+    ∙ ap (λ o. and_then o (λ p. answer (number_at m p b.row b.column))) (sym (placed m.levels b.position b.level b.level.pair ok.levels.distinct k.there refl refl))
     ∙ ap answer (number_there m b k)
 
 natural_pair : (a : Vec2 ℤ) (p : Vec2 ℕ) → naturals a ≡ Some p → a ≡ signed p

@@ -19,8 +19,8 @@ pub record Small (m : Meaning) (b : Block) : Type 0 where
 pub small_block : (m : Meaning) → Lawful m → (b : Block) → IsBlock m b → Small m b
 small_block m ok b k =
     let c = corner_in m ok b k in
-    let s = ok.sides b.position b.level k.there in
-    let p = ok.pairs b.position b.level k.there in
+    let s = ok.levels.sides b.position b.level k.there in
+    let p = ok.levels.pairs b.position b.level k.there in
     let across = ceiling_le b.level.width m.block_width ok.block_wide.0 in
     let down = ceiling_le b.level.height m.block_height ok.block_high.0 in
     let r = k.row_in in

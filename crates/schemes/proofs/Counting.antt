@@ -37,14 +37,14 @@ one_fits m ok i l e =
     let k = nth_some m.levels i l (sym e) in
     let n : area (slice_index_or m.levels i l) ≤ sum_by area m.levels = get_or-le-sum_by area m.levels i l k.0 in
     let s : area (slice_index_or m.levels i l) ≡ area l = ap area k.1 in
-    let b = ok.fits in
+    let b = ok.levels.fits in
     omega arith
 
 pub so_far_fits : (m : Meaning) → Lawful m → (b : Vec2 ℕ) → 0 < b.0 → 0 < b.1 → (i : ℕ) → sum_by (blocks_in b) (take i m.levels) < 2 ^ 64
 so_far_fits m ok b w h i =
     let front : sum_by (blocks_in b) (take i m.levels) ≤ sum_by (blocks_in b) m.levels = sum_by-take-le (blocks_in b) m.levels i in
     let whole : sum_by (blocks_in b) m.levels ≤ sum_by area m.levels = sumBy_mono (blocks_in b) area (chunks_le b w h) m.levels in
-    let fits = ok.fits in
+    let fits = ok.levels.fits in
     omega arith
 
 pub nth_at : {X : Type 0} (xs : List X) (i : ℕ) (x : X) → i < length xs → x ≡ slice_index_or xs i x → Some x ≡ slice_get xs i

@@ -47,19 +47,14 @@ pub record LawfulLevels (levels : List Level) : Type 0 where
   pub sides : EachLevel HasSides levels
   pub pairs : EachLevel LowPair levels
   pub distinct : DistinctPairs levels
+  -- all level areas add up to at most 2^64 − 1
   pub fits : sum_by area levels ≤ 18446744073709551615
 
 -- the rules of every scheme
 pub record Lawful (m : Meaning) : Type 0 where
   pub block_wide : IsSide m.block_width
   pub block_high : IsSide m.block_height
-  pub some : 1 ≤ length m.levels
-  pub few : length m.levels ≤ 1024
-  pub sides : EachLevel HasSides m.levels
-  pub pairs : EachLevel LowPair m.levels
-  pub distinct : DistinctPairs m.levels
-  -- all level areas add up to at most 2^64 − 1
-  pub fits : sum_by area m.levels ≤ 18446744073709551615
+  pub levels : LawfulLevels m.levels
   -- under line naming there is one level, and it is (0,0) in whole lines
   pub one_by_lines : m.naming ≡ Line → length m.levels ≡ 1
   pub whole_lines : m.naming ≡ Line → EachLevel (WholeLines m.block_width) m.levels

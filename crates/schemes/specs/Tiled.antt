@@ -15,12 +15,7 @@ pub tiles_lawful : (tw th : ℕ) (levels : List Level) → IsSide tw → IsSide 
 tiles_lawful tw th levels st su ok = record {
   block_wide = st;
   block_high = su;
-  some = ok.some;
-  few = ok.few;
-  sides = ok.sides;
-  pairs = ok.pairs;
-  distinct = ok.distinct;
-  fits = ok.fits;
+  levels = ok;
   one_by_lines = λ e. not_lines e;
   whole_lines = λ e. not_lines e;
 }

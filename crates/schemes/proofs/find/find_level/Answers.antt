@@ -8,7 +8,7 @@ use Rattle.schemes.proofs.find.find_level.Goals as goal
 pub returns-in_err-position-clause-law : goal.returns-in_err-position-clause-law
 returns-in_err-position-clause-law g c =
     let m = g.S.Scheme.meaning c.args.scheme.now in
-    rw c.from_residual.ensures (nowhere m.levels c.args.pair (g.met.S.Scheme.lawful c.args.scheme.now).distinct (sym c.in_err-position.ensures))
+    rw c.from_residual.ensures (nowhere m.levels c.args.pair (g.met.S.Scheme.lawful c.args.scheme.now).levels.distinct (sym c.in_err-position.ensures))
 
 -- the level at the position has it
 pub returns-clause-law : goal.returns-clause-law
