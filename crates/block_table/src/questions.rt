@@ -34,8 +34,9 @@ pub(crate) enum Question<'a> {
         data_length: usize,
         room: usize,
     },
+    // What no word names sums to 0.
     Repeated {
-        question: Repeated,
+        question: Option<Repeated>,
         times: usize,
     },
 }
@@ -52,12 +53,16 @@ impl<'a> Question<'a> {
             },
             ("row", [line]) => Question::Row { line: int(*line) },
             ("find", [y]) => Question::Lookup(BlockCoordinates::Line { y: int(*y) }),
-            ("find", [x, y, i, j]) => Question::Lookup(BlockCoordinates::Tile(TileCoordinates {
-                tile_index: Vec2(int(*x), int(*y)),
-                level_index: Vec2(int(*i), int(*j)),
-            })),
-            ("abs", [x, y, i, j]) => Question::InLevel(tile(*x, *y, *i, *j)),
-            ("win", [x, y, i, j]) => Question::InPlane(tile(*x, *y, *i, *j)),
+            ("find", [x, y, i, j]) => {
+                let tile = tile(int(*x), int(*y), int(*i), int(*j));
+                Question::Lookup(BlockCoordinates::Tile(tile))
+            }
+            ("abs", [x, y, i, j]) => {
+                Question::InLevel(tile(size(*x), size(*y), size(*i), size(*j)))
+            }
+            ("win", [x, y, i, j]) => {
+                Question::InPlane(tile(size(*x), size(*y), size(*i), size(*j)))
+            }
             (_, [number, data_length, room]) => Question::Prefix {
                 number: size(*number),
                 data_length: size(*data_length),
@@ -92,15 +97,19 @@ impl<'a> Question<'a> {
                 data_length,
                 room,
             } => Answer::Prefix(WrittenPrefix::new(layer, number, data_length, room)),
-            Question::Repeated { question, times } => question.ask(layer, times).into(),
+            Question::Repeated { question, times } => {
+                question
+                    .map_or(0, |question| question.ask(layer, times))
+                    .into()
+            }
         })
     }
 }
 
-fn tile(x: i64, y: i64, i: i64, j: i64) -> TileCoordinates<usize> {
+fn tile<T>(x: T, y: T, i: T, j: T) -> TileCoordinates<T> {
     TileCoordinates {
-        tile_index: Vec2(size(x), size(y)),
-        level_index: Vec2(size(i), size(j)),
+        tile_index: Vec2(x, y),
+        level_index: Vec2(i, j),
     }
 }
 

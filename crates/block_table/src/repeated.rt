@@ -1,21 +1,15 @@
 // Questions asked many times over, for measuring. Each answers a sum over its answers, so that none can be left out.
+use arrayvec::ArrayVec;
 use blocks::bounds::IntegerBounds;
 use blocks::numbering::find_block;
 use blocks::pixels::bounds_of_block;
 use blocks::tile::TileCoordinates;
 use layout::layer::Layer;
 use numbers::refusal::Refusal;
-use numbers::vec2::Vec2;
 use prefixes::positioned::Positioned;
 use schemes::chunk_count::compute_chunk_count;
-use std::array;
 
 const SAMPLES: usize = 1024;
-
-const FIRST: TileCoordinates<usize> = TileCoordinates {
-    tile_index: Vec2(0, 0),
-    level_index: Vec2(0, 0),
-};
 
 #[derive(Clone, Copy)]
 pub(crate) enum Repeated {
@@ -24,20 +18,18 @@ pub(crate) enum Repeated {
     Bounds,
     Tiles,
     Lookups,
-    // What no word above names: it sums to 0.
-    Nothing,
 }
 
 impl Repeated {
-    pub(crate) fn read(word: &str) -> Repeated {
-        match word {
+    pub(crate) fn read(word: &str) -> Option<Repeated> {
+        Some(match word {
             "count" => Repeated::Count,
             "enumerate" => Repeated::Enumerate,
             "bounds" => Repeated::Bounds,
             "tiles" => Repeated::Tiles,
             "lookups" => Repeated::Lookups,
-            _ => Repeated::Nothing,
-        }
+            _ => return None,
+        })
     }
 
     pub(crate) fn ask(self, layer: &Layer, times: usize) -> usize {
@@ -47,7 +39,6 @@ impl Repeated {
             Repeated::Enumerate => total(times, |_| enumerated(layer)),
             Repeated::Bounds => total(times, |i| width(bounds_of_block(&scheme, sample(layer, i)))),
             Repeated::Tiles => tiles(layer, times),
-            Repeated::Nothing => 0,
             Repeated::Lookups => {
                 let image = Positioned {
                     scheme,
@@ -96,11 +87,16 @@ fn enumerated(layer: &Layer) -> usize {
 // Tile indices are made before, since the question is what they lead to.
 fn tiles(layer: &Layer, times: usize) -> usize {
     let scheme = layer.scheme();
-    let asked: [TileCoordinates<usize>; SAMPLES] = array::from_fn(|i| {
-        find_block(&scheme, sample(layer, i)).map_or(FIRST, |block| block.tile_coordinates())
-    });
+    let blocks = (0..SAMPLES).filter_map(|i| find_block(&scheme, sample(layer, i)).ok());
+    let mut asked = ArrayVec::<TileCoordinates<usize>, SAMPLES>::new();
+    if asked
+        .extend(blocks.map(|block| block.tile_coordinates()))
+        .is_err()
+    {
+        return 0;
+    }
     total(times / SAMPLES, |_| {
-        asked.iter().fold(0usize, |sum, tile| {
+        asked.as_slice().iter().fold(0usize, |sum, tile| {
             sum.wrapping_add(width(layer.get_absolute_block_pixel_coordinates(*tile)))
         })
     })

@@ -9,7 +9,7 @@ use numbers::vec2::{OutOfRange, Vec2};
 
 // Column and row of a block in its level, and the level's pair: sizes where they are counted with, signed numbers where
 // they are stored.
-#[derive(Clone, Copy, PartialEq, Eq, Debug)]
+#[derive(Clone, Copy, PartialEq, Eq, Debug, Default)]
 pub struct TileCoordinates<T> {
     pub tile_index: Vec2<T>,
     pub level_index: Vec2<T>,

@@ -28,9 +28,7 @@ fn told(answer: Result<usize, Refusal>) -> usize {
 // The first block's line is held by 32 signed bits, the second block's is not: that is told before all else.
 #[test]
 fn past_the_last_line(rt: HostRuntime) -> Result<(), Fail> {
-    let Some(scheme) = scheme() else {
-        return Err(Fail::new("three sides"));
-    };
+    let scheme = scheme().ok_or_else(|| Fail::new("three sides"))?;
     let image = Positioned {
         scheme,
         position: Vec2(0, 2147483646),
@@ -56,9 +54,7 @@ fn past_the_last_line(rt: HostRuntime) -> Result<(), Fail> {
 // A scheme that is only lent has the blocks that it has.
 #[test]
 fn of_a_lent_scheme(rt: HostRuntime) -> Result<(), Fail> {
-    let Some(scheme) = scheme() else {
-        return Err(Fail::new("three sides"));
-    };
+    let scheme = scheme().ok_or_else(|| Fail::new("three sides"))?;
     let image = Positioned {
         scheme: &scheme,
         position: Vec2(0, -3),

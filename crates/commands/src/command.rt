@@ -41,14 +41,25 @@ pub fn decode(bytes: &[u8]) -> Option<(Command, &[u8])>
         'C' => channel(rest),
         'S' => scan_lines(rest),
         'T' => tiles(rest),
-        'O' => beginning(rest),
+        'O' => u64::read(rest).map(|(first_offset, rest)| (Command::O { first_offset }, rest)),
         'F' => Some((Command::F, rest)),
         'B' => Some((Command::B, rest)),
-        'P' => placing(rest),
+        'P' => <(u64, u32)>::read(rest).map(|((number, length), rest)| (
+            Command::P {
+                number: number as usize,
+                length,
+            },
+            rest,
+        )),
         'N' => Some((Command::N, rest)),
-        'Q' => query(rest),
-        'Y' => line_lookup(rest),
-        'X' => tile_lookup(rest),
+        'Q' => u64::read(rest).map(|(number, rest)| (
+            Command::Q {
+                number: number as usize,
+            },
+            rest,
+        )),
+        'Y' => i32::read(rest).map(|(y, rest)| (Command::Y { y }, rest)),
+        'X' => TileCoordinates::read(rest).map(|(tile, rest)| (Command::X(tile), rest)),
         _ => None,
     }
 }
@@ -97,50 +108,4 @@ fn tiles(bytes: &[u8]) -> Option<(Command, &[u8])>
         chunk_count: None,
     };
     Some((Command::T(description), rest))
-}
-
-fn beginning(bytes: &[u8]) -> Option<(Command, &[u8])>
-    ensures { seen result ≡ read_command (79 ∷ bytes.now) }
-{
-    let (first_offset, rest) = u64::read(bytes)?;
-    Some((Command::O { first_offset }, rest))
-}
-
-fn placing(bytes: &[u8]) -> Option<(Command, &[u8])>
-    ensures { seen result ≡ read_command (80 ∷ bytes.now) }
-{
-    let ((number, length), rest) = <(u64, u32)>::read(bytes)?;
-    Some((
-        Command::P {
-            number: number as usize,
-            length,
-        },
-        rest,
-    ))
-}
-
-fn query(bytes: &[u8]) -> Option<(Command, &[u8])>
-    ensures { seen result ≡ read_command (81 ∷ bytes.now) }
-{
-    let (number, rest) = u64::read(bytes)?;
-    Some((
-        Command::Q {
-            number: number as usize,
-        },
-        rest,
-    ))
-}
-
-fn line_lookup(bytes: &[u8]) -> Option<(Command, &[u8])>
-    ensures { seen result ≡ read_command (89 ∷ bytes.now) }
-{
-    let (y, rest) = i32::read(bytes)?;
-    Some((Command::Y { y }, rest))
-}
-
-fn tile_lookup(bytes: &[u8]) -> Option<(Command, &[u8])>
-    ensures { seen result ≡ read_command (88 ∷ bytes.now) }
-{
-    let (tile, rest) = TileCoordinates::<i32>::read(bytes)?;
-    Some((Command::X(tile), rest))
 }

@@ -7,7 +7,7 @@ use crate::whole::Whole;
 use std::error::Error;
 use std::fmt;
 
-#[derive(Clone, Copy, PartialEq, Eq, Debug)]
+#[derive(Clone, Copy, PartialEq, Eq, Debug, Default)]
 pub struct Vec2<T>(pub T, pub T);
 
 // Each is absent exactly where one of its two parts leaves the kind's range.
@@ -62,10 +62,10 @@ impl TryFrom<Vec2<usize>> for Vec2<i32> {
     ghost try_from_gives = { λ pair r. result_ok r ≡ signed_pair pair };
 
     fn try_from(pair: Vec2<usize>) -> Result<Vec2<i32>, OutOfRange> {
-        match (i32::try_from(pair.0), i32::try_from(pair.1)) {
-            (Ok(x), Ok(y)) => Ok(Vec2(x, y)),
-            _ => Err(OutOfRange),
-        }
+        let Vec2(x, y) = pair;
+        let x = i32::try_from(x).map_err(|_| OutOfRange)?;
+        let y = i32::try_from(y).map_err(|_| OutOfRange)?;
+        Ok(Vec2(x, y))
     }
 }
 
@@ -76,9 +76,9 @@ impl TryFrom<Vec2<i32>> for Vec2<usize> {
     ghost try_from_gives = { λ pair r. result_ok r ≡ naturals pair };
 
     fn try_from(pair: Vec2<i32>) -> Result<Vec2<usize>, OutOfRange> {
-        match (usize::try_from(pair.0), usize::try_from(pair.1)) {
-            (Ok(x), Ok(y)) => Ok(Vec2(x, y)),
-            _ => Err(OutOfRange),
-        }
+        let Vec2(across, down) = pair;
+        let across = usize::try_from(across).map_err(|_| OutOfRange)?;
+        let down = usize::try_from(down).map_err(|_| OutOfRange)?;
+        Ok(Vec2(across, down))
     }
 }

@@ -1,7 +1,7 @@
 -- A prefix that was written is read again.
-use Rattle.std.proofs.Common.{◌≡◌, ℕ, ◌≤◌, List, [], ◌∷◌, ◌++◌, length, drop, ℤ, pos, Ok, Err, Result, sym, ap, ◌∙◌, arith, w32, SFits}
+use Rattle.std.proofs.Common.{◌≡◌, ℕ, ◌≤◌, List, [], ◌∷◌, ◌++◌, length, drop, ℤ, pos, Some, None, Ok, Err, Option, Result, sym, ap, ◌∙◌, arith, w32, SFits}
 use Rattle.std.proofs.lemmas.Bool.{cond-true, le-leb}
-use Rattle.numbers.specs.Refusals.{Told}
+use Rattle.numbers.specs.Refusals.{Told, refused}
 use Rattle.numbers.specs.declared.refusal.Refusal.{Refusal}
 use Rattle.fields.specs.Bytes.{int_at, ints_bytes}
 use Rattle.fields.proofs.Back.{int_back}
@@ -21,6 +21,10 @@ size_as p c is = ap (λ x. size_of (with p x)) (sym is)
 few : (n : ℕ) → n ≤ 2147483647 → SFits w32 (pos n)
 few n h = record { sfits = omega arith }
 
+-- what is told of the fields that were read
+abbrev told : Option (BlockCoordinates × ℤ) → Result Prefix Told
+told o = elim o [ Some fields ↦ with_length fields.0 fields.1 | None ↦ Err (refused 20 5 0) ]
+
 -- the fields of a tile are signed 32-bit numbers
 pub record TileFits (tile : TileCoordinates ℤ) : Type 0 where
   pub column : SFits w32 tile.tile_index.0
@@ -32,7 +36,7 @@ pub record TileFits (tile : TileCoordinates ℤ) : Type 0 where
 line_back : (y : ℤ) (n : ℕ) (rest : List ℕ) → SFits w32 y → n ≤ 2147483647 → prefix_read by.Line (ints_bytes (y ∷ (pos n ∷ [])) ++ rest) ≡ Ok (record { coordinates = Line y; data_length = n })
 line_back y n rest fy h =
     let bytes = ints_bytes (y ∷ (pos n ∷ [])) ++ rest in
-    cond-true _ _ _ (le-leb 8 (length bytes) (omega arith))
+    ap told (cond-true _ _ _ (le-leb 8 (length bytes) (omega arith)))
     ∙ ap (λ z. with_length (Line z) (int_at bytes 4)) (int_back y rest fy)
     ∙ ap (with_length (Line y)) (int_back (pos n) rest (few n h))
 
@@ -42,7 +46,7 @@ tile_back tile n rest f h =
     let l = tile.level_index in
     let bytes = ints_bytes (t.0 ∷ (t.1 ∷ (l.0 ∷ (l.1 ∷ (pos n ∷ []))))) ++ rest in
     let at : ℤ → ℤ → ℤ → ℤ → ℤ → Result Prefix Told = λ a b c d e. with_length (Tile (record { tile_index = record { 0 = a; 1 = b }; level_index = record { 0 = c; 1 = d } })) e in
-    cond-true _ _ _ (le-leb 20 (length bytes) (omega arith))
+    ap told (cond-true _ _ _ (le-leb 20 (length bytes) (omega arith)))
     ∙ ap (λ z. at z (int_at bytes 4) (int_at bytes 8) (int_at bytes 12) (int_at bytes 16)) (int_back t.0 rest f.column)
     ∙ ap (λ z. at t.0 z (int_at bytes 8) (int_at bytes 12) (int_at bytes 16)) (int_back t.1 rest f.row)
     ∙ ap (λ z. at t.0 t.1 z (int_at bytes 12) (int_at bytes 16)) (int_back l.0 rest f.level_x)

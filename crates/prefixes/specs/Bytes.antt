@@ -43,14 +43,18 @@ written p buffer = cond (nat_le (size_of p) (length buffer)) (cond (nat_le p.dat
 abbrev pub buffer_with : Prefix → List ℕ → List ℕ
 buffer_with p buffer = cond (nat_le p.data_length 2147483647) (over (ints_bytes (prefix_fields p)) buffer) buffer
 
+-- coordinates and data length at the front of the bytes, where there are enough of them
+abbrev pub fields_read : Naming → List ℕ → Option (BlockCoordinates × ℤ)
+fields_read by.Line bytes = cond (nat_le 8 (length bytes)) (Some (Line (int_at bytes 0), int_at bytes 4)) None
+fields_read by.Tile bytes = cond (nat_le 20 (length bytes)) (Some (Tile (tile_ints_at bytes 0), int_at bytes 16)) None
+
 -- reading: 20 where the bytes are too few, or the data length is negative; later bytes are not read
 abbrev pub with_length : BlockCoordinates → ℤ → Result Prefix Told
 with_length c (pos n) = Ok (record { coordinates = c; data_length = n })
 with_length c (negsuc n) = Err (refused 20 5 0)
 
 abbrev pub prefix_read : Naming → List ℕ → Result Prefix Told
-prefix_read by.Line bytes = cond (nat_le 8 (length bytes)) (with_length (Line (int_at bytes 0)) (int_at bytes 4)) (Err (refused 20 5 0))
-prefix_read by.Tile bytes = cond (nat_le 20 (length bytes)) (with_length (Tile (tile_ints_at bytes 0)) (int_at bytes 16)) (Err (refused 20 5 0))
+prefix_read naming bytes = elim (fields_read naming bytes) [ Some fields ↦ with_length fields.0 fields.1 | None ↦ Err (refused 20 5 0) ]
 
 -- what was written, where it was, is read again
 abbrev pub ComesBack : Prefix → Result ℕ Refusal → List ℕ → Type 0

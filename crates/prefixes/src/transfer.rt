@@ -1,10 +1,7 @@
 // Prefixes written to a lent buffer and read from lent bytes.
-ghost use Rattle.std.specs.Prelude.{◌≡◌, length as bytes_in, if◌then◌else◌, Some, None, nat_le};
-ghost use Rattle.blocks.specs.Stored.{tile_ints_at};
-ghost use Rattle.fields.specs.Bytes.{int_at};
+ghost use Rattle.std.specs.Prelude.{◌≡◌};
 ghost use Rattle.numbers.specs.Refusals.{outcome};
-ghost use Rattle.prefixes.specs.Bytes.{ComesBack, buffer_with, prefix_read, written};
-ghost use Rattle.prefixes.specs.declared.coordinates.BlockCoordinates.TheVariants.{Line as at_line, Tile as at_tile};
+ghost use Rattle.prefixes.specs.Bytes.{ComesBack, buffer_with, fields_read, prefix_read, written};
 
 use crate::coordinates::BlockCoordinates;
 use crate::naming::prefix_size;
@@ -27,18 +24,15 @@ const DATA_TOO_LONG: Refusal = Refusal {
     place: 0,
 };
 
-fn read_line(bytes: &[u8]) -> Option<(BlockCoordinates, i32)>
-    ensures { result ≡ (if nat_le 8 (bytes_in bytes.now) then Some (at_line (int_at bytes.now 0), int_at bytes.now 4) else None) }
+fn read_fields(naming: Naming, bytes: &[u8]) -> Option<(BlockCoordinates, i32)>
+    ensures { result ≡ fields_read naming bytes.now }
 {
-    let ((y, data_length), _) = <(i32, i32)>::read(bytes)?;
-    Some((BlockCoordinates::Line { y }, data_length))
-}
-
-fn read_tile(bytes: &[u8]) -> Option<(BlockCoordinates, i32)>
-    ensures { result ≡ (if nat_le 20 (bytes_in bytes.now) then Some (at_tile (tile_ints_at bytes.now 0), int_at bytes.now 16) else None) }
-{
-    let ((tile, data_length), _) = <(TileCoordinates<i32>, i32)>::read(bytes)?;
-    Some((BlockCoordinates::Tile(tile), data_length))
+    match naming {
+        Naming::Line => <(i32, i32)>::read(bytes)
+            .map(|((y, data_length), _)| (BlockCoordinates::Line { y }, data_length)),
+        Naming::Tile => <(TileCoordinates<i32>, i32)>::read(bytes)
+            .map(|((tile, data_length), _)| (BlockCoordinates::Tile(tile), data_length)),
+    }
 }
 
 impl Prefix {
@@ -46,12 +40,8 @@ impl Prefix {
     pub fn read(naming: Naming, bytes: &[u8]) -> Result<Prefix, Refusal>
         ensures { outcome result ≡ prefix_read naming bytes.now }
     {
-        let fields = match naming {
-            Naming::Line => read_line(bytes),
-            Naming::Tile => read_tile(bytes),
-        };
-        let (coordinates, data_length) = fields.ok_or(UNREADABLE)?;
-        let data_length = usize::try_from(data_length).ok().ok_or(UNREADABLE)?;
+        let (coordinates, data_length) = read_fields(naming, bytes).ok_or(UNREADABLE)?;
+        let data_length = usize::try_from(data_length).map_err(|_| UNREADABLE)?;
         Ok(Prefix {
             coordinates,
             data_length,
@@ -67,7 +57,7 @@ impl Prefix {
         if buffer.len() < prefix_size(self.coordinates.naming()) {
             return Err(UNREADABLE);
         }
-        let data_length = i32::try_from(self.data_length).ok().ok_or(DATA_TOO_LONG)?;
+        let data_length = i32::try_from(self.data_length).map_err(|_| DATA_TOO_LONG)?;
         let count = match self.coordinates {
             BlockCoordinates::Line { y } => write_ints(buffer, &[y, data_length]),
             BlockCoordinates::Tile(coordinates) => {

@@ -36,10 +36,6 @@ impl Side {
     pub fn longer(self, other: Side) -> Side
         ensures { result.pixels ≡ max self.pixels other.pixels }
     {
-        if self.pixels < other.pixels {
-            other
-        } else {
-            self
-        }
+        self.max(other)
     }
 }

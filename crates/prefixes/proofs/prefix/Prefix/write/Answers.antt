@@ -17,9 +17,9 @@ returns-clause-back c =
       | in-Line w ↦
           let y : SFits w32 w.in-Line.y = search rules in
           let holds : new ≡ buffer_with p old = search rules in
-          line_comes p w.in-Line.y old new c.ok_or-2.result w.in-Line.is y room short holds
+          line_comes p w.in-Line.y old new c.ok_or.result w.in-Line.is y room short holds
       | in-Tile w ↦
           let fits : TileFits w.in-Tile.coordinates = record { column = search rules; row = search rules; level_x = search rules; level_y = search rules } in
           let holds : new ≡ buffer_with p old = search rules in
-          tile_comes p w.in-Tile.coordinates old new c.ok_or-2.result w.in-Tile.is fits room short holds
+          tile_comes p w.in-Tile.coordinates old new c.ok_or.result w.in-Tile.is fits room short holds
     ]
