@@ -21,14 +21,10 @@ fn level_block_count(level: Level, block: Vec2<Side>) -> usize
 pub fn count_blocks<S: Scheme>(scheme: &S, block: Vec2<Side>, levels: usize) -> usize
     ensures { result ≡ sum_by (blocks_in (pixels_of_both block)) (take levels (S.Scheme.meaning scheme.now).levels) }
 {
-    let mut total = 0;
-    for position in 0..levels {
-        match scheme.level(position) {
-            Some(level) => total += level_block_count(level, block),
-            None => break,
-        }
-    }
-    total
+    (0..levels)
+        .map_while(|position| scheme.level(position))
+        .map(|level| level_block_count(level, block))
+        .sum()
 }
 
 pub fn compute_chunk_count<S: Scheme>(scheme: &S) -> usize
