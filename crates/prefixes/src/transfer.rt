@@ -28,10 +28,14 @@ fn read_fields(naming: Naming, bytes: &[u8]) -> Option<(BlockCoordinates, i32)>
     ensures { result ≡ fields_read naming bytes.now }
 {
     match naming {
-        Naming::Line => <(i32, i32)>::read(bytes)
-            .map(|((y, data_length), _)| (BlockCoordinates::Line { y }, data_length)),
-        Naming::Tile => <(TileCoordinates<i32>, i32)>::read(bytes)
-            .map(|((tile, data_length), _)| (BlockCoordinates::Tile(tile), data_length)),
+        Naming::Line => <(i32, i32)>::read(bytes).map(|((y, data_length), _)| (
+            BlockCoordinates::Line { y },
+            data_length,
+        )),
+        Naming::Tile => <(TileCoordinates<i32>, i32)>::read(bytes).map(|((tile, data_length), _)| (
+            BlockCoordinates::Tile(tile),
+            data_length,
+        )),
     }
 }
 

@@ -1,2 +1,3 @@
 pub mod Counting
+pub mod Chains
 pub mod Placed

@@ -1,7 +1,8 @@
 use Rattle.std.proofs.Common.{◌∙◌, arith, rules}
 use Rattle.schemes.specs.Blocks.{blocks_in}
 use Rattle.schemes.specs.Making.{pixels_of_both}
-use Rattle.schemes.proofs.Counting.{so_far_fits, added, added_all}
+use Rattle.schemes.proofs.Chains.{added, added_all}
+use Rattle.schemes.proofs.Counting.{so_far_fits}
 use Rattle.schemes.proofs.chunk_count.count_blocks.Goals as goal
 
 pub sum-requires-clause-fits : goal.sum-requires-clause-fits
