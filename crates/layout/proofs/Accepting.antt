@@ -134,12 +134,6 @@ meant d channels k s e =
     let f : Some (any_meaning s) ≡ Some (meaning_of d) = e ∙ scheme_there d channels k in
     cc
 
-pub never_absent : (d : LayerDescription) (channels : ℕ) → Kept d channels → None ≡ scheme_of d → ⊥
-never_absent d channels k e =
-    let f : None ≡ Some (meaning_of d) = e ∙ scheme_there d channels k in
-    let z : ◌≡◌ {A = ℕ} 0 1 = cc in
-    omega arith
-
 -- where no rule is broken, the chunk count decides
 pub counted : (d : LayerDescription) (cs : List ChannelDescription) → None ≡ broken_rule d (length cs) → None ≡ broken_channel d 0 cs → accepted d cs ≡ cond (states d.chunk_count (chunks_in (meaning_of d))) (Ok (laid_out d cs)) (Err (refused 14 4 0))
 counted d cs e f =
