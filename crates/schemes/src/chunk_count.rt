@@ -17,7 +17,9 @@ fn level_block_count(level: Level, block: Vec2<Side>) -> usize
     block.0.blocks_along(level.width) * block.1.blocks_along(level.height)
 }
 
-// The blocks of this size that cut the first levels of a scheme, as many as are asked for and are there.
+// The blocks of this size that cut the first levels of a scheme, as many as are asked for and are there. It is inlined, since
+// a lookup among the blocks of one level asks for none of them, and a call would be much of what that costs.
+#[inline]
 pub fn count_blocks<S: Scheme>(scheme: &S, block: Vec2<Side>, levels: usize) -> usize
     ensures { result ≡ sum_by (blocks_in (pixels_of_both block)) (take levels (S.Scheme.meaning scheme.now).levels) }
 {
