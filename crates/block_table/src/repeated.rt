@@ -88,6 +88,7 @@ fn enumerated(layer: &Layer) -> usize {
 fn tiles(layer: &Layer, times: usize) -> usize {
     let scheme = layer.scheme();
     let blocks = (0..SAMPLES).filter_map(|i| find_block(&scheme, sample(layer, i)).ok());
+    // There is room for them all, so that none is left out.
     let mut asked = ArrayVec::<TileCoordinates<usize>, SAMPLES>::new();
     if asked
         .extend(blocks.map(|block| block.tile_coordinates()))

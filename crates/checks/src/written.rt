@@ -19,10 +19,7 @@ fn scheme() -> Option<ScanLines> {
 
 // What was answered, or 1,000 and the number of the refusal.
 fn told(answer: Result<usize, Refusal>) -> usize {
-    match answer {
-        Ok(number) => number,
-        Err(why) => 1000 + usize::from(why.number()),
-    }
+    answer.unwrap_or_else(|why| 1000 + usize::from(why.number()))
 }
 
 // The first block's line is held by 32 signed bits, the second block's is not: that is told before all else.

@@ -5,6 +5,7 @@ pub mod any_scheme;
 mod axis;
 pub mod chunk_count;
 pub mod find;
+mod halved;
 pub mod level;
 pub mod levels;
 pub mod mip;

@@ -30,13 +30,8 @@ impl Levels for MipLevels {
 
     fn level(&self, position: usize) -> Option<Level> {
         if position < self.count() {
-            let width = self.size.0.at_level(self.rounding_mode, position);
-            let height = self.size.1.at_level(self.rounding_mode, position);
-            Some(Level {
-                pair: Vec2(position, position),
-                width,
-                height,
-            })
+            let pair = Vec2(position, position);
+            Some(Level::halved(self.size, self.rounding_mode, pair))
         } else {
             None
         }

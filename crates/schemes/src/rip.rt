@@ -47,16 +47,9 @@ impl Levels for RipLevels {
 
     fn level(&self, position: usize) -> Option<Level> {
         let Vec2(across, down) = self.counts();
-        let x = position % across;
-        let y = position / across;
-        if y < down {
-            let width = self.size.0.at_level(self.rounding_mode, x);
-            let height = self.size.1.at_level(self.rounding_mode, y);
-            Some(Level {
-                pair: Vec2(x, y),
-                width,
-                height,
-            })
+        let pair = Vec2(position % across, position / across);
+        if pair.1 < down {
+            Some(Level::halved(self.size, self.rounding_mode, pair))
         } else {
             None
         }

@@ -8,11 +8,11 @@ use Rattle.schemes.proofs.mip.MipLevelsLevels.level.Goals as goal
 low : (s : MipLevels) (p n : ℕ) → p < n → n ≡ length (mip_levels s.rounding_mode s.size.0.pixels s.size.1.pixels) → p ≤ 31
 low s p n h e = mip_low s.rounding_mode s.size.0.pixels s.size.1.pixels p s.size.0.ranged s.size.1.ranged (omega arith)
 
-pub at_level-width-requires : goal.at_level-width-requires
-at_level-width-requires c = low c.args.self.now _ _ c.if-position-count.true c.count.ensures
+pub halved-requires-clause-across : goal.halved-requires-clause-across
+halved-requires-clause-across c = low c.args.self.now _ _ c.if-position-count.true c.count.ensures
 
-pub at_level-height-requires : goal.at_level-height-requires
-at_level-height-requires c = low c.args.self.now _ _ c.if-position-count.true c.count.ensures
+pub halved-requires-clause-down : goal.halved-requires-clause-down
+halved-requires-clause-down c = low c.args.self.now _ _ c.if-position-count.true c.count.ensures
 
 pub returns-then-position-count : goal.returns-then-position-count
 returns-then-position-count c =
