@@ -1,6 +1,6 @@
 // Answers, and how they are printed.
 ghost use Rattle.std.specs.Prelude.{Some};
-ghost use Rattle.block_table.specs.Answers.{bounds_text, coordinates_text, told_text};
+ghost use Rattle.block_table.specs.Answers.{answer_text, bounds_text, coordinates_text, told_text};
 
 use crate::order::BlocksInOrder;
 use crate::prefix::WrittenPrefix;
@@ -45,6 +45,8 @@ pub(crate) enum Answer<'a> {
 }
 
 impl fmt::Display for Answer<'_> {
+    ghost output = { answer_text };
+
     fn fmt<W: fmt::Write>(&self, f: &mut fmt::Formatter<W>) -> fmt::Result {
         match self {
             Answer::Layer { line, chunk_count } => write!(f, "{line}: {chunk_count}"),

@@ -16,6 +16,7 @@ use layout::description::LayerDescription;
 use layout::layer::Layer;
 use numbers::refusal::Refusal;
 use numbers::vec2::Vec2;
+use std::io;
 use std::io::{BufRead, BufReader, BufWriter, Write};
 
 // The layer that was described last, or why it was refused; none before the first.
@@ -25,6 +26,15 @@ struct Replay {
 }
 
 impl Replay {
+    // The part of a line whose numbers are read: nothing where it describes no layer and there is none to ask.
+    fn asked<'a>(&self, line: &'a str) -> &'a str {
+        if line.starts_with("layer ") || matches!(self.layer, Some(Ok(_))) {
+            line
+        } else {
+            ""
+        }
+    }
+
     // A line that begins with `layer` changes the layer, and is answered as a question about it.
     fn answer<'a>(&mut self, line: &'a str, numbers: &[i64]) -> Option<Told<Answer<'a>>> {
         if line.starts_with("layer ") {
@@ -51,7 +61,7 @@ fn run(rt: &HostRuntime) -> anyhow::Result<()> {
     let mut replay = Replay { layer: None };
     for line in BufReader::new(rt.alloc(), rt.stdin())?.lines(rt.alloc()) {
         let line = line?;
-        let numbers = numbers(rt.alloc(), line.as_str())?;
+        let numbers = numbers(rt.alloc(), replay.asked(line.as_str())).map_err(io::Error::from)?;
         match replay.answer(line.as_str(), numbers.as_slice()) {
             Some(answer) => writeln!(out, "{answer}")?,
             None => writeln!(out, "?")?,

@@ -41,25 +41,28 @@ pub fn decode(bytes: &[u8]) -> Option<(Command, &[u8])>
         'C' => channel(rest),
         'S' => scan_lines(rest),
         'T' => tiles(rest),
-        'O' => u64::read(rest).map(|(first_offset, rest)| (Command::O { first_offset }, rest)),
+        'O' => {
+            let (first_offset, rest) = u64::read(rest)?;
+            Some((Command::O { first_offset }, rest))
+        }
         'F' => Some((Command::F, rest)),
         'B' => Some((Command::B, rest)),
-        'P' => <(u64, u32)>::read(rest).map(|((number, length), rest)| (
-            Command::P {
-                number: number as usize,
-                length,
-            },
-            rest,
-        )),
+        'P' => {
+            let ((number, length), rest) = <(u64, u32)>::read(rest)?;
+            let number = number as usize;
+            Some((Command::P { number, length }, rest))
+        }
         'N' => Some((Command::N, rest)),
-        'Q' => u64::read(rest).map(|(number, rest)| (
-            Command::Q {
-                number: number as usize,
-            },
-            rest,
-        )),
-        'Y' => i32::read(rest).map(|(y, rest)| (Command::Y { y }, rest)),
-        'X' => TileCoordinates::read(rest).map(|(tile, rest)| (Command::X(tile), rest)),
+        'Q' => {
+            let (number, rest) = u64::read(rest)?;
+            let number = number as usize;
+            Some((Command::Q { number }, rest))
+        }
+        'Y' => {
+            let (y, rest) = i32::read(rest)?;
+            Some((Command::Y { y }, rest))
+        }
+        'X' => tile_lookup(rest),
         _ => None,
     }
 }
@@ -72,6 +75,8 @@ fn channel(bytes: &[u8]) -> Option<(Command, &[u8])>
     Some((Command::C(SampleType::try_from(code).ok()?), rest))
 }
 
+// Out of line, as `tiles` is: the room for all their fields would be cleared on the way to each other letter.
+#[inline(never)]
 fn scan_lines(bytes: &[u8]) -> Option<(Command, &[u8])>
     ensures { seen result ≡ read_command (83 ∷ bytes.now) }
 {
@@ -88,6 +93,7 @@ fn scan_lines(bytes: &[u8]) -> Option<(Command, &[u8])>
     Some((Command::S(description), rest))
 }
 
+#[inline(never)]
 fn tiles(bytes: &[u8]) -> Option<(Command, &[u8])>
     ensures { seen result ≡ read_command (84 ∷ bytes.now) }
 {
@@ -108,4 +114,11 @@ fn tiles(bytes: &[u8]) -> Option<(Command, &[u8])>
         chunk_count: None,
     };
     Some((Command::T(description), rest))
+}
+
+fn tile_lookup(bytes: &[u8]) -> Option<(Command, &[u8])>
+    ensures { seen result ≡ read_command (88 ∷ bytes.now) }
+{
+    let (tile, rest) = TileCoordinates::read(bytes)?;
+    Some((Command::X(tile), rest))
 }

@@ -3,10 +3,13 @@ ghost use Rattle.std.specs.Prelude.{◌≡◌};
 ghost use Rattle.layout.specs.Layers.{laid};
 ghost use Rattle.layout.specs.Totals.{block_bytes, fitting, most_block_bytes, most_file_bytes, total_bytes};
 ghost use Rattle.numbers.specs.Refusals.{outcome};
+ghost use Rattle.schemes.specs.Blocks.{pixel_count};
+ghost use Rattle.schemes.specs.Schemes.{any_meaning};
 
 use crate::layer::Layer;
 use numbers::refusal::{Module, Reason, Refusal};
 use numbers::vec2::Vec2;
+use schemes::any_scheme::AnyScheme;
 use schemes::pixel_count::compute_pixel_count;
 use schemes::scheme::Scheme;
 use schemes::side::Side;
@@ -20,12 +23,24 @@ const TOO_LARGE: Refusal = Refusal {
     place: 0,
 };
 
+// Each kind by itself, so that its levels are counted once, and not for each of them.
+fn pixel_count(scheme: &AnyScheme) -> usize
+    ensures { result ≡ pixel_count (any_meaning scheme.now) }
+{
+    match scheme {
+        AnyScheme::ScanLines(s) => compute_pixel_count(s),
+        AnyScheme::Single(s) => compute_pixel_count(s),
+        AnyScheme::Mip(s) => compute_pixel_count(s),
+        AnyScheme::Rip(s) => compute_pixel_count(s),
+    }
+}
+
 impl Layer {
     // Stored without compression.
     pub fn total_pixel_bytes(&self) -> Result<usize, Refusal>
         ensures { outcome result ≡ fitting (total_bytes (laid self.now)) }
     {
-        let pixels = compute_pixel_count(&self.positioned.scheme);
+        let pixels = pixel_count(&self.positioned.scheme);
         let bytes = pixels.checked_mul(self.bytes_per_pixel);
         bytes.ok_or(TOO_LARGE)
     }
