@@ -9,10 +9,11 @@ use crate::shrinking::Shrinking;
 use crate::side::Side;
 use numbers::vec2::Vec2;
 
+// The size stands first, so that it lies at one place whatever the levels are: nearly every question asks for it.
 #[derive(Clone, Copy)]
 pub struct Tiles<L> {
-    pub levels: L,
     pub tile_size: Vec2<Side>,
+    pub levels: L,
 }
 
 impl<L: Levels> Scheme for Tiles<L> {

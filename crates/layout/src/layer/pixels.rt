@@ -3,6 +3,8 @@ ghost use Rattle.std.specs.Prelude.{◌≡◌};
 ghost use Rattle.layout.specs.Layers.{laid};
 ghost use Rattle.layout.specs.Pixels.{BoundsByTile, block_pixels, plane_pixels, too_deep};
 ghost use Rattle.numbers.specs.Refusals.{outcome};
+ghost use Rattle.schemes.specs.Finding.{level_with};
+ghost use Rattle.schemes.specs.Schemes.{any_meaning};
 
 use crate::layer::Layer;
 use blocks::bounds::IntegerBounds;
@@ -10,8 +12,9 @@ use blocks::tile::TileCoordinates;
 use numbers::counts::LARGEST_LEVEL_INDEX;
 use numbers::refusal::{Module, Reason, Refusal};
 use numbers::vec2::Vec2;
+use schemes::any_scheme::AnyScheme;
 use schemes::find::find_level;
-use schemes::level::Naming;
+use schemes::level::{Level, Naming};
 use schemes::scheme::Scheme;
 use schemes::side::Side;
 
@@ -25,8 +28,23 @@ fn is_too_deep(naming: Naming, level: Vec2<usize>) -> bool
     }
 }
 
+// Each kind by itself, so that a mip map counts its levels once, and not for the pair and again for the level that has it.
+#[inline(always)]
+fn level_of(scheme: &AnyScheme, pair: Vec2<usize>) -> Option<Level>
+    ensures { result ≡ level_with (any_meaning scheme.now).levels pair }
+{
+    match scheme {
+        AnyScheme::ScanLines(s) => find_level(s, pair),
+        AnyScheme::Single(s) => find_level(s, pair),
+        AnyScheme::Mip(s) => find_level(s, pair),
+        AnyScheme::Rip(s) => find_level(s, pair),
+    }
+}
+
+// What leads to a block's pixels is kept in line: where many tiles of a layer are asked for, what they share is found once.
 impl Layer {
     // Inside its level, whose corner is (0, 0).
+    #[inline(always)]
     pub fn get_absolute_block_pixel_coordinates(
         &self,
         tile: TileCoordinates<usize>,
@@ -37,6 +55,7 @@ impl Layer {
         self.level_pixels(tile)
     }
 
+    #[inline(always)]
     fn level_pixels(&self, tile: TileCoordinates<usize>) -> Result<IntegerBounds, Refusal>
         ensures { outcome result ≡ block_pixels (laid self.now).scheme tile }
     {
@@ -44,7 +63,7 @@ impl Layer {
             return Err(Refusal::new(Reason::LevelIndexTooLarge, Module::Layers));
         }
         let scheme = &self.positioned.scheme;
-        let level = find_level(scheme, tile.level_index).ok_or(Refusal::new(
+        let level = level_of(scheme, tile.level_index).ok_or(Refusal::new(
             Reason::NoSuchTile,
             Module::Layers,
         ))?;
@@ -53,6 +72,7 @@ impl Layer {
     }
 
     // In the plane of the layer, where positions may be negative.
+    #[inline(always)]
     pub fn get_block_data_window_pixel_coordinates(
         &self,
         tile: TileCoordinates<usize>,
